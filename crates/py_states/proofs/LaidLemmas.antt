@@ -2,13 +2,15 @@
 use Rattle.std.proofs.Common.{arith, ◌≡◌, ℕ, zero, suc, min, ◌+◌, ◌-◌, ◌<◌, ◌≤◌, ◌==◌, cond, List, [], ◌∷◌, ◌++◌, length, take, drop, Option, Some, ◌≢◌, refl, sym, ap, subst, ◌∙◌, slice_set, eq-eqb}
 use Rattle.std.proofs.Math.Dec.{eqb-suc-zero}
 use Rattle.std.proofs.lemmas.Bool.{ne_eqb}
-use Rattle.std.proofs.lemmas.List.{length-drop, length-take-le, take-take, take-append-le, drop-append-le, drop-take, take_min, take-set-le, drop-set-add, drop-set-lt}
+use Rattle.std.proofs.lemmas.List.{length-drop, length-take, length-take-le, take-take, take-append-le, drop-append-le, drop-take, take_min, append-nil, take-set-le, set_past, take_all, drop-set-add, drop-set-lt}
 use Rattle.py_data.specs.declared.value.Value.{Value}
 use Rattle.py_frames.specs.declared.state.Block.{Block}
-use Rattle.py_frames.specs.State.{stored}
+use Rattle.py_frames.specs.declared.state.Frame.{Frame}
+use Rattle.py_frames.specs.State.{advanced, pushed, stored}
 use Rattle.py_states.specs.declared.head.Head.{Head}
-use Rattle.py_states.specs.inner.Laid.{laid, IsLaid, opening}
-use Rattle.py_states.specs.inner.Changes.{on_top, restacked, catching, catching_by}
+use Rattle.py_states.specs.inner.Laid.{frame_of, laid, moved, IsLaid, opening}
+use Rattle.py_states.specs.inner.Changes.{on_top, restacked, placed, catching, catching_by}
+use Rattle.py_states.proofs.TopLemmas.{pushed_is}
 
 -- there is a frame for each head
 pub length_laid : (hs : List Head) (vs : List Value) (bs : List Block) → length (laid hs vs bs) ≡ length hs
@@ -86,6 +88,52 @@ restacked_laid h hs m k vs ys bs e laid_so is =
     subst (λ z. laid z (take k vs ++ ys) bs ≡ on_top (restacked m ys) (laid z vs bs)) (sym e)
     (restacked_cons h (drop 1 hs) m k vs ys bs whole.0 is)
 
+-- one value more
+pushed_cons : (x : Value) (h : Head) (hs : List Head) (vs : List Value) (bs : List Block) →
+    h.base + h.slots ≤ length vs → laid (h ∷ hs) (vs ++ x ∷ []) bs ≡ on_top (pushed x) (laid (h ∷ hs) vs bs)
+pushed_cons x h hs vs bs low =
+    let n : ℕ = length vs in
+    let m : ℕ = n - h.base - h.slots in
+    let own : length (drop h.base vs) ≡ n - h.base = length-drop h.base vs in
+    let tall : length (drop h.slots (drop h.base vs)) ≡ m =
+    length-drop h.slots (drop h.base vs) ∙ ap (λ z. z - h.slots) own in
+    ap (λ z. laid (h ∷ hs) (z ++ x ∷ []) bs) (sym (take_all n vs (omega arith)))
+    ∙ (restacked_cons h hs m n vs (x ∷ []) bs low (omega (arith, low))
+    ∙ pushed_is m x (laid (h ∷ hs) vs bs) (sym tall))
+
+pub pushed_laid : (x : Value) (h : Head) (hs : List Head) (vs : List Value) (bs : List Block) → hs ≡ h ∷ drop 1 hs →
+    IsLaid hs vs bs → laid hs (vs ++ x ∷ []) bs ≡ on_top (pushed x) (laid hs vs bs)
+pushed_laid x h hs vs bs e laid_so =
+    let whole : IsLaid (h ∷ drop 1 hs) vs bs = subst (λ z. IsLaid z vs bs) e laid_so in
+    subst (λ z. laid z (vs ++ x ∷ []) bs ≡ on_top (pushed x) (laid z vs bs)) (sym e)
+    (pushed_cons x h (drop 1 hs) vs bs whole.0)
+
+-- the innermost frame at another place, with others in the place of its n operands
+advanced_cons : (h : Head) (hs : List Head) (n t k : ℕ) (vs ys : List Value) (bs : List Block) →
+    h.base + h.slots ≤ length vs → k ≡ h.base + h.slots + (length vs - (h.base + h.slots) - n)
+    → laid (record h { pc = t } ∷ hs) (take k vs ++ ys) bs ≡ on_top (advanced n ys t) (laid (h ∷ hs) vs bs)
+advanced_cons h hs n t k vs ys bs low is =
+    let own : length (drop h.base vs) ≡ length vs - h.base = length-drop h.base vs in
+    let tall : length (drop h.slots (drop h.base vs)) ≡ length vs - h.base - h.slots =
+    length-drop h.slots (drop h.base vs) ∙ ap (λ z. z - h.slots) own in
+    let m : ℕ = length (drop h.slots (drop h.base vs)) - n in
+    let left : k ≡ length vs - (length vs - h.base - h.slots - m) = omega (arith, low, is, tall) in
+    ap (on_top (placed t)) (restacked_cons h hs m k vs ys bs low left)
+
+pub advanced_laid : (h : Head) (hs : List Head) (n t k : ℕ) (vs ys : List Value) (bs : List Block) →
+    hs ≡ h ∷ drop 1 hs → IsLaid hs vs bs → k ≡ h.base + h.slots + (length vs - (h.base + h.slots) - n)
+    → laid (moved t hs) (take k vs ++ ys) bs ≡ on_top (advanced n ys t) (laid hs vs bs)
+advanced_laid h hs n t k vs ys bs e laid_so is =
+    let whole : IsLaid (h ∷ drop 1 hs) vs bs = subst (λ z. IsLaid z vs bs) e laid_so in
+    subst (λ z. laid (moved t z) (take k vs ++ ys) bs ≡ on_top (advanced n ys t) (laid z vs bs)) (sym e)
+    (advanced_cons h (drop 1 hs) n t k vs ys bs whole.0 is)
+
+pub passed_laid : (h : Head) (hs : List Head) (n t k : ℕ) (vs : List Value) (bs : List Block) →
+    hs ≡ h ∷ drop 1 hs → IsLaid hs vs bs → k ≡ h.base + h.slots + (length vs - (h.base + h.slots) - n)
+    → laid (moved t hs) (take k vs) bs ≡ on_top (advanced n [] t) (laid hs vs bs)
+passed_laid h hs n t k vs bs e laid_so is =
+    ap (λ z. laid (moved t hs) z bs) (sym (append-nil (take k vs))) ∙ advanced_laid h hs n t k vs [] bs e laid_so is
+
 -- ---- a slot of the innermost frame
 
 set_within : (s i : ℕ) (xs : List Value) (x : Value) → take s (slice_set xs i x) ≡ slice_set (take s xs) i x
@@ -120,6 +168,40 @@ pub stored_laid : (h : Head) (hs : List Head) (i : ℕ) (x : Value) (vs : List V
     → laid hs (slice_set vs (h.base + i) x) bs ≡ on_top (stored i x) (laid hs vs bs)
 stored_laid h hs i x vs bs e l = subst (λ z. laid z (slice_set vs (h.base + i) x) bs ≡ on_top (stored i x)
     (laid z vs bs)) (sym e) (stored_cons h (drop 1 hs) i x vs bs l)
+
+both_on_top : (f g : Frame → Frame) (fs : List Frame) → on_top g (on_top f fs) ≡ on_top (λ z. g (f z)) fs
+both_on_top f g [] = refl
+both_on_top f g (z ∷ zs) = refl
+
+pub kept_laid : (h : Head) (hs : List Head) (n i t k : ℕ) (x : Value) (vs : List Value) (bs : List Block) →
+    hs ≡ h ∷ drop 1 hs → IsLaid hs vs bs → k ≡ h.base + h.slots + (length vs - (h.base + h.slots) - n) → i < h.slots
+    → laid (moved t hs) (slice_set (take k vs) (h.base + i) x) bs
+    ≡ on_top (λ f. stored i x (advanced n [] t f)) (laid hs vs bs)
+kept_laid h hs n i t k x vs bs e laid_so is l =
+    let there : moved t hs ≡ record h { pc = t } ∷ drop 1 (moved t hs) =
+    ap (moved t) e ∙ ap (λ z. record h { pc = t } ∷ z) (sym (ap (λ z. drop 1 (moved t z)) e)) in
+    stored_laid (record h { pc = t }) (moved t hs) i x (take k vs) bs there l
+    ∙ (ap (on_top (stored i x)) (passed_laid h hs n t k vs bs e laid_so is)
+    ∙ both_on_top (advanced n [] t) (stored i x) (laid hs vs bs))
+
+-- a slot that the innermost frame doesn't have
+past_on_top : (h : Head) (hs : List Head) (n i t : ℕ) (x : Value) (vs : List Value) (bs : List Block) → h.slots ≤ i →
+    on_top (advanced n [] t) (laid (h ∷ hs) vs bs)
+    ≡ on_top (λ f. stored i x (advanced n [] t f)) (laid (h ∷ hs) vs bs)
+past_on_top h hs n i t x vs bs l =
+    let slots : List Value = take h.slots (drop h.base vs) in
+    let few : length slots ≤ h.slots = omega (arith, length-take h.slots (drop h.base vs)) in
+    let same : slice_set slots i x ≡ slots = set_past slots i x (omega (arith, l, few)) in
+    let f : Frame = frame_of h (drop h.base vs) (take h.blocks bs) in
+    λ j. record (advanced n [] t f) { slots = sym same j } ∷ laid hs (take h.base vs) (drop h.blocks bs)
+
+pub not_kept_laid : (h : Head) (hs : List Head) (n i t k : ℕ) (x : Value) (vs : List Value) (bs : List Block) →
+    hs ≡ h ∷ drop 1 hs → IsLaid hs vs bs → k ≡ h.base + h.slots + (length vs - (h.base + h.slots) - n) → h.slots ≤ i
+    → laid (moved t hs) (take k vs) bs ≡ on_top (λ f. stored i x (advanced n [] t f)) (laid hs vs bs)
+not_kept_laid h hs n i t k x vs bs e laid_so is l =
+    passed_laid h hs n t k vs bs e laid_so is
+    ∙ subst (λ z. on_top (advanced n [] t) (laid z vs bs)
+    ≡ on_top (λ f. stored i x (advanced n [] t f)) (laid z vs bs)) (sym e) (past_on_top h (drop 1 hs) n i t x vs bs l)
 
 -- ---- the first frame that has an open block
 

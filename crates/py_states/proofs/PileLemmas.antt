@@ -1,6 +1,8 @@
 -- Lists from their last element.
-use Rattle.std.proofs.Common.{arith, ◌≡◌, ℕ, zero, suc, min, ◌+◌, ◌-◌, ◌<◌, List, [], ◌∷◌, ◌++◌, length, reverse, take, drop, Some, None, get_or, refl, sym, ap, subst, ◌∙◌, slice_get, slice_set}
-use Rattle.std.proofs.lemmas.List.{length-append, length-reverse, length-drop, reverse-append, take-append-drop, drop_at, drop_min}
+use Rattle.std.proofs.Common.{arith, ◌≡◌, ℕ, zero, suc, min, ◌+◌, ◌-◌, ◌<◌, List, [], ◌∷◌, ◌++◌, length, reverse, take, drop, Some, None, get_or, refl, sym, ap, subst, ◌∙◌, slice_get, slice_set, slice_index_or}
+use Rattle.std.proofs.lemmas.List.{length-append, length-reverse, length-drop, reverse-append, take-append-drop, set-get_or, drop_at, drop_min}
+use Rattle.py_states.specs.declared.head.Head.{Head}
+use Rattle.py_states.specs.inner.Laid.{moved}
 
 pub record Snoc {A : Type 0} (xs : List A) : Type 0 where
   pub init : List A
@@ -57,6 +59,14 @@ pub set_top_is : {A : Type 0} (xs es : List A) (x : A) (k : ℕ) → reverse xs 
 set_top_is xs es x k e q l =
     let tall : length es ≡ length xs = ap length (sym e) ∙ length-reverse xs in
     ap (λ n. reverse (slice_set xs (n - 1) x)) q ∙ (set_is xs x (omega (arith, l, tall)) ∙ ap (λ z. x ∷ drop 1 z) e)
+
+-- another place in the last head, which is h, where the list is a pile's and has k heads
+pub moved_is : (xs es : List Head) (h : Head) (t k : ℕ) → reverse xs ≡ es → k ≡ length xs → 0 < length es →
+    h ≡ slice_index_or xs (k - 1) h → reverse (slice_set xs (k - 1) (record h { pc = t })) ≡ moved t es
+moved_is xs es h t k e q l last =
+    let whole : slice_set xs (k - 1) h ≡ xs = ap (slice_set xs (k - 1)) last ∙ set-get_or xs (k - 1) h in
+    let there : es ≡ h ∷ drop 1 es = sym e ∙ (sym (ap reverse whole) ∙ set_top_is xs es h k e q l) in
+    set_top_is xs es (record h { pc = t }) k e q l ∙ sym (ap (moved t) there)
 
 -- nothing at a place
 pub nothing_at : {A : Type 0} (xs : List A) (i : ℕ) (d : A) → None ≡ slice_get xs i → d ≡ get_or xs i d

@@ -1,10 +1,10 @@
 //! The frames of a thread, one behind the other in three lists.
-ghost use Rattle.std.specs.Prelude.{◌≡◌, ◌+◌, ◌<◌, ◌≤◌, [], ◌∷◌, length, drop, slice_get, OnOk, IfOk, IsTrue, ◌↔◌};
+ghost use Rattle.std.specs.Prelude.{◌≡◌, ◌+◌, ◌-◌, ◌<◌, ◌≤◌, [], ◌∷◌, length, drop, slice_get, OnOk, IfOk, IsTrue, ◌↔◌};
 ghost use Rattle.py_states.specs.Innermost.{innermost};
 ghost use Rattle.py_states.specs.inner.Changes.{on_top, restacked, placed, catching};
 ghost use Rattle.py_states.specs.inner.Framed.{HasRoom};
 ghost use Rattle.py_states.specs.inner.Laid.{opening};
-ghost use Rattle.py_frames.specs.State.{stored, opened, closed};
+ghost use Rattle.py_frames.specs.State.{advanced, pushed, stored, opened, closed};
 
 use crate::head::Head;
 use crate::pile::Pile;
@@ -53,6 +53,18 @@ fn first_open(heads: &Pile<Head>, first: usize) -> Option<usize>
         }
     }
     None
+}
+
+/// How many of so many values stay where the top `n` above a floor go, or all above it where there are fewer.
+fn left_above(floor: usize, values: usize, n: usize) -> usize
+    requires { floor ≤ values }
+    ensures { result ≡ floor + (values - floor - n) }
+{
+    if n < values - floor {
+        values - n
+    } else {
+        floor
+    }
 }
 
 impl Frames {
@@ -176,6 +188,13 @@ impl Frames {
         self.blocks.reserve(blocks)
     }
 
+    /// Whether there is room for one value more.
+    pub fn has_room_for_value(&self) -> bool
+        ensures { IsTrue result → 0 < self.now.more_values }
+    {
+        self.values.has_room()
+    }
+
     /// Makes room for so many values more.
     pub fn make_room_for_values(&mut self, values: usize) -> Result<(), NoMemory>
         ensures same { self.new.frames ≡ self.old.frames }
@@ -200,27 +219,71 @@ impl Frames {
         }
     }
 
+    /// Puts a value on the innermost frame's stack, for which there is room.
+    #[tactic(auto, using(crate::proofs::LaidLemmas::pushed_laid))]
+    pub fn push_value(&mut self, x: Value)
+        requires { 0 < self.old.more_values }
+        ensures { self.new.frames ≡ on_top (pushed x) self.old.frames }
+    {
+        if let Some(_) = self.heads.top() {
+            self.values.push(x);
+        }
+    }
+
+    /// The innermost frame goes on at a place, without its `n` operands.
+    #[tactic(auto, using(crate::proofs::LaidLemmas::passed_laid))]
+    pub fn pass(&mut self, n: usize, pc: u32)
+        ensures frames { self.new.frames ≡ on_top (advanced n [] pc) self.old.frames }
+        ensures values { self.old.more_values ≤ self.new.more_values }
+        ensures others { (self.old.more_frames ≤ self.new.more_frames) × (self.old.more_blocks ≤ self.new.more_blocks) }
+    {
+        if let Some(head) = self.heads.top() {
+            let values = self.values.len();
+            self.values
+                .truncate(left_above(head.base + head.slots, values, n));
+            self.heads.move_top(pc);
+        }
+    }
+
+    /// The innermost frame goes on at a place, with a value in the place of its `n` operands, for which there is room.
+    #[tactic(auto, using(crate::proofs::LaidLemmas::advanced_laid))]
+    pub fn give(&mut self, n: usize, x: Value, pc: u32)
+        requires { 0 < self.old.more_values }
+        ensures { self.new.frames ≡ on_top (advanced n (x ∷ []) pc) self.old.frames }
+    {
+        if let Some(head) = self.heads.top() {
+            let values = self.values.len();
+            self.values
+                .truncate(left_above(head.base + head.slots, values, n));
+            self.heads.move_top(pc);
+            self.values.push(x);
+        }
+    }
+
+    /// The innermost frame goes on at a place, without its `n` operands, and with a value in a slot, if it has that slot.
+    #[tactic(auto, using(crate::proofs::LaidLemmas::kept_laid))]
+    pub fn keep(&mut self, n: usize, i: usize, x: Value, pc: u32)
+        ensures { self.new.frames ≡ on_top (λ f. stored i x (advanced n [] pc f)) self.old.frames }
+    {
+        if let Some(head) = self.heads.top() {
+            let values = self.values.len();
+            self.values
+                .truncate(left_above(head.base + head.slots, values, n));
+            self.heads.move_top(pc);
+            if i < head.slots {
+                self.values.set(head.base + i, x);
+            }
+        }
+    }
+
     /// The innermost frame goes on at that place.
     pub fn place(&mut self, pc: u32)
         ensures frames { self.new.frames ≡ on_top (placed pc) self.old.frames }
         ensures values { self.old.more_values ≤ self.new.more_values }
         ensures others { (self.old.more_frames ≤ self.new.more_frames) × (self.old.more_blocks ≤ self.new.more_blocks) }
     {
-        if let Some(head) = self.heads.top() {
-            self.heads.set_top(Head { pc, ..head });
-        }
-    }
-
-    /// Puts a value into a slot of the innermost frame, if it has that slot.
-    #[tactic(auto, using(crate::proofs::LaidLemmas::stored_laid))]
-    pub fn store(&mut self, i: usize, x: Value)
-        ensures { self.new.frames ≡ on_top (stored i x) self.old.frames }
-    {
-        if let Some(head) = self.heads.top() {
-            let own = self.values.len() - head.base;
-            if i < head.slots && i < own {
-                self.values.set(head.base + i, x);
-            }
+        if self.heads.len() > 0 {
+            self.heads.move_top(pc);
         }
     }
 

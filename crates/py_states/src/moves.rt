@@ -35,40 +35,61 @@ impl Frames {
         self.make_room(values, 1, g.blocks.len())
     }
 
-    /// The innermost frame goes on at a place, with these values in the place of its `n` operands, for which there is
-    /// room.
-    #[tactic(auto, using(crate::proofs::TopLemmas::go_on_is))]
-    pub fn go_on(&mut self, n: usize, ys: &[Value], place: u32)
-        requires { length ys.now ≤ self.old.more_values }
-        ensures frames { self.new.frames ≡ on_top (advanced n ys.now place) self.old.frames }
-        ensures values { self.old.more_values ≤ self.new.more_values + length ys.now }
-        ensures others { (self.old.more_frames ≤ self.new.more_frames) × (self.old.more_blocks ≤ self.new.more_blocks) }
+    /// The innermost frame goes on at a place, with a value in the place of its `n` operands, for which room has to be
+    /// made.
+    #[cold]
+    #[inline(never)]
+    fn give_beyond(&mut self, n: usize, x: Value, place: u32) -> Result<(), NoMemory>
+        ensures ok { OnOk result (self.new.frames ≡ on_top (advanced n (x ∷ []) place) self.old.frames) }
+        ensures err { OnErr result (self.new.frames ≡ self.old.frames) }
     {
-        let left = self.height().saturating_sub(n);
-        self.restack(left, ys);
-        self.place(place);
+        self.make_room_for_values(1)?;
+        self.give(n, x, place);
+        Ok(())
     }
 
-    /// The same, where room has to be made.
-    pub fn advance(&mut self, n: usize, ys: &[Value], place: u32) -> Result<(), NoMemory>
+    /// The same with several values.
+    #[inline(never)]
+    #[tactic(auto, using(crate::proofs::TopLemmas::go_on_is))]
+    fn advance_by_more(&mut self, n: usize, ys: &[Value], place: u32) -> Result<(), NoMemory>
         ensures ok { OnOk result (self.new.frames ≡ on_top (advanced n ys.now place) self.old.frames) }
         ensures err { OnErr result (self.new.frames ≡ self.old.frames) }
     {
         self.make_room_for_values(ys.len())?;
-        self.go_on(n, ys, place);
+        let left = self.height().saturating_sub(n);
+        self.restack(left, ys);
+        self.place(place);
         Ok(())
     }
 
+    /// The innermost frame goes on at a place, with these values in the place of its `n` operands.
+    #[inline(always)]
+    pub fn advance(&mut self, n: usize, ys: &[Value], place: u32) -> Result<(), NoMemory>
+        ensures ok { OnOk result (self.new.frames ≡ on_top (advanced n ys.now place) self.old.frames) }
+        ensures err { OnErr result (self.new.frames ≡ self.old.frames) }
+    {
+        match ys {
+            [] => {
+                self.pass(n, place);
+                Ok(())
+            }
+            [x] if self.has_room_for_value() => {
+                self.give(n, *x, place);
+                Ok(())
+            }
+            [x] => self.give_beyond(n, *x, place),
+            _ => self.advance_by_more(n, ys, place),
+        }
+    }
+
     /// Leaves the innermost frame; the one round it gets its value.
-    #[tactic(auto, using(crate::proofs::TopLemmas::pushed_is))]
     pub fn leave(&mut self, x: Value) -> Result<(), NoMemory>
         ensures ok { OnOk result (self.new.frames ≡ on_top (pushed x) (drop 1 self.old.frames)) }
         ensures err { OnErr result (self.new.frames ≡ self.old.frames) }
     {
         self.make_room_for_values(1)?;
         self.pop();
-        let height = self.height();
-        self.restack(height, &[x]);
+        self.push_value(x);
         Ok(())
     }
 

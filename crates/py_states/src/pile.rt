@@ -1,6 +1,8 @@
 //! Piles: lists that grow and shrink at one end. Contracts see the element at that end first.
 ghost use Rattle.std.specs.Prelude.{◌≡◌, ◌+◌, ◌<◌, ◌≤◌, [], ◌∷◌, ◌++◌, length, reverse, drop, slice_get, MatchOption, OnOk, IfOk};
+ghost use Rattle.py_states.specs.inner.Laid.{moved};
 
+use crate::head::Head;
 use py_base::NoMemory;
 use std::alloc::Global;
 use std::marker::Model;
@@ -122,5 +124,19 @@ impl<T: Copy> Pile<T> {
         Ok(Pile {
             items: Vec::from_slice(alloc, self.items.as_slice())?,
         })
+    }
+}
+
+impl Pile<Head> {
+    /// The head on top tells another place.
+    #[tactic(auto, using(crate::proofs::PileLemmas::moved_is))]
+    pub fn move_top(&mut self, pc: u32)
+        requires { 0 < length self.old.entries }
+        ensures entries { self.new.entries ≡ moved pc self.old.entries }
+        ensures room { self.new.room ≡ self.old.room }
+    {
+        let last = self.items.len() - 1;
+        let head = &mut self.items[last];
+        head.pc = pc;
     }
 }

@@ -95,6 +95,82 @@ fn an_exception(rt: HostRuntime) -> Result<(), Fail> {
     Ok(())
 }
 
+/// A thread as begun, where a value took the place of `n` operands.
+fn given(alloc: Global, n: usize) -> Result<ThreadState, NoMemory> {
+    let mut thread = begun(alloc)?;
+    thread.gives(n, Value::Int(30));
+    Ok(thread)
+}
+
+#[test]
+fn a_value_in_place(rt: HostRuntime) -> Result<(), Fail> {
+    let on_top = given(rt.alloc(), 0)?;
+    assert_eq!(rt;
+        on_top.operands(9),
+        [Value::Int(11), Value::Int(12), Value::Int(30)].as_slice()
+    );
+    let for_one = given(rt.alloc(), 1)?;
+    assert_eq!(rt;
+        for_one.operands(9),
+        [Value::Int(11), Value::Int(30)].as_slice()
+    );
+    let for_two = given(rt.alloc(), 2)?;
+    assert_eq!(rt; for_two.operands(9), [Value::Int(30)].as_slice());
+    let for_all = given(rt.alloc(), 3)?;
+    assert_eq!(rt; for_all.operands(9), [Value::Int(30)].as_slice());
+    assert_eq!(rt; for_all.slots(), [Value::Int(10)].as_slice());
+    assert_eq!(rt; (for_all.code(), for_all.pc()), (2, 1));
+    Ok(())
+}
+
+/// A thread as begun, with so many values more.
+fn filled(alloc: Global, count: usize) -> Result<ThreadState, NoMemory> {
+    let mut thread = begun(alloc)?;
+    for _ in 0..count {
+        thread.gives(0, Value::Int(31));
+    }
+    Ok(thread)
+}
+
+#[test]
+fn values_beyond_the_room(rt: HostRuntime) -> Result<(), Fail> {
+    let thread = filled(rt.alloc(), 40)?;
+    assert_eq!(rt; (thread.height(), thread.pc()), (42, 40));
+    assert_eq!(rt; thread.operands(41).first(), Some(&Value::Int(12)));
+    assert_eq!(rt; thread.operand(40, 0), Value::Int(31));
+    assert_eq!(rt; thread.operand(40, 39), Value::Int(31));
+    Ok(())
+}
+
+#[test]
+fn no_value(rt: HostRuntime) -> Result<(), Fail> {
+    let mut thread = begun(rt.alloc())?;
+    assert!(rt; thread.passes_on(0));
+    assert_eq!(rt; (thread.height(), thread.pc()), (2, 1));
+    assert!(rt; thread.jumps_on(1, 7));
+    assert_eq!(rt; thread.operands(9), [Value::Int(11)].as_slice());
+    assert_eq!(rt; thread.pc(), 7);
+    assert!(rt; thread.passes_on(2));
+    assert_eq!(rt; (thread.height(), thread.pc()), (0, 8));
+    assert_eq!(rt; thread.slots(), [Value::Int(10)].as_slice());
+    thread.end();
+    assert!(rt; !thread.passes_on(0));
+    assert!(rt; !thread.gives(0, Value::None));
+    Ok(())
+}
+
+#[test]
+fn a_value_in_a_slot(rt: HostRuntime) -> Result<(), Fail> {
+    let mut thread = begun(rt.alloc())?;
+    assert!(rt; thread.keeps(1, 0, Value::Int(12)));
+    assert_eq!(rt; thread.slots(), [Value::Int(12)].as_slice());
+    assert_eq!(rt; thread.operands(9), [Value::Int(11)].as_slice());
+    assert!(rt; thread.keeps(2, 1, Value::Int(13)));
+    assert_eq!(rt; thread.slots(), [Value::Int(12)].as_slice());
+    assert_eq!(rt; (thread.height(), thread.pc()), (0, 2));
+    Ok(())
+}
+
 #[test]
 fn a_copy(rt: HostRuntime) -> Result<(), Fail> {
     let mut thread = called(rt.alloc())?;

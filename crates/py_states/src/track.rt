@@ -1,5 +1,5 @@
 //! Tracks: lists that grow and shrink at their end, with room that can be made beforehand.
-ghost use Rattle.std.specs.Prelude.{◌≡◌, ◌+◌, ◌<◌, ◌≤◌, [], ◌++◌, length, take, slice_set, OnOk, IfOk};
+ghost use Rattle.std.specs.Prelude.{◌≡◌, ◌+◌, ◌<◌, ◌≤◌, [], ◌∷◌, ◌++◌, length, take, slice_set, OnOk, IfOk, IsTrue};
 
 use py_base::NoMemory;
 use std::alloc::Global;
@@ -52,6 +52,22 @@ impl<T: Copy> Track<T> {
         self.items.reserve(n)
     }
 
+    /// Whether there is room for one more.
+    pub fn has_room(&self) -> bool
+        ensures { IsTrue result → 0 < self.now.room }
+    {
+        self.items.len() < self.items.capacity()
+    }
+
+    /// Adds an element at the end, where there is room.
+    pub fn push(&mut self, x: T)
+        requires { 0 < self.old.room }
+        ensures entries { self.new.entries ≡ self.old.entries ++ x ∷ [] }
+        ensures room { self.old.room ≤ self.new.room + 1 }
+    {
+        self.items.push_reserved(x);
+    }
+
     /// Adds the elements of a slice at the end, where there is room.
     pub fn extend(&mut self, xs: &[T])
         requires { length xs.now ≤ self.old.room }
@@ -60,7 +76,7 @@ impl<T: Copy> Track<T> {
     {
         match xs {
             [] => (),
-            [x] => self.items.push_reserved(*x),
+            [x] => self.push(*x),
             _ => {
                 let _ = self.items.extend_from_slice(xs);
             }

@@ -36,3 +36,8 @@ IsLaid (h ∷ hs) vs bs =
 abbrev pub opening : ℕ → List Head → Option ℕ
 opening i [] = None
 opening i (h ∷ hs) = cond (h.blocks == 0) (opening (i + 1) hs) (Some i)
+
+-- the first of these heads tells another place
+abbrev pub moved : ℕ → List Head → List Head
+moved t [] = []
+moved t (h ∷ hs) = record h { pc = t } ∷ hs

@@ -1,5 +1,5 @@
 //! What an instruction leads to, done to the state of the thread.
-ghost use Rattle.std.specs.Prelude.{◌≡◌, ◌+◌, ◌-◌, [], ◌∷◌, length, drop, get_or, Some, IfOk, OnErr};
+ghost use Rattle.std.specs.Prelude.{◌≡◌, ◌+◌, ◌-◌, ◌∷◌, length, drop, get_or, Some, IfOk, OnErr};
 ghost use Rattle.lock_run.specs.declared.client.Outcome.TheVariants.{Done};
 ghost use Rattle.py_frames.specs.State.{advanced, closed, code_at, line_at as line_of, opened, passed, returned, stored, thrown_to, unwound, with_frames};
 ghost use Rattle.py_states.specs.Innermost.{innermost, settled_in, Settles};
@@ -61,12 +61,12 @@ impl ThreadState {
         ensures err { OnErr result (self.new ≡ self.old) }
     {
         let place = self.frames.next_place()?;
-        self.frames.go_on(n, &[], place);
-        self.frames.store(i as usize, x);
+        self.frames.keep(n, i as usize, x, place);
         Ok(Outcome::Done)
     }
 
     /// A block begins, and the next place follows.
+    #[inline(never)]
     pub(super) fn opens(&mut self, n: usize, handler: u32) -> Result<Outcome, NoMemory>
         ensures ok { IfOk result (λ o. Settles
             (Done, with_top self.old (λ f. opened handler (length f.stack - n) (passed n f))) o self.new) }
@@ -75,23 +75,25 @@ impl ThreadState {
         let place = self.frames.next_place()?;
         let height = self.frames.height_below(n)?;
         self.frames.make_room(0, 0, 1)?;
-        self.frames.go_on(n, &[], place);
+        self.frames.pass(n, place);
         self.frames.open(Block { handler, height });
         Ok(Outcome::Done)
     }
 
     /// The innermost block ends, and the next place follows.
+    #[inline(never)]
     pub(super) fn closes(&mut self, n: usize) -> Result<Outcome, NoMemory>
         ensures ok { IfOk result (λ o. Settles (Done, with_top self.old (λ f. closed (passed n f))) o self.new) }
         ensures err { OnErr result (self.new ≡ self.old) }
     {
         let place = self.frames.next_place()?;
-        self.frames.go_on(n, &[], place);
+        self.frames.pass(n, place);
         self.frames.close();
         Ok(Outcome::Done)
     }
 
     /// A frame is entered. The one round it stands on the next place.
+    #[inline(never)]
     fn enters(&mut self, n: usize, frame: &Frame) -> Result<Outcome, NoMemory>
         ensures ok { IfOk result (λ o. Settles
             (Done, with_frames self.old (frame.now ∷ on_top (passed n) self.old.frames)) o self.new) }
@@ -99,12 +101,13 @@ impl ThreadState {
     {
         let place = self.frames.next_place()?;
         self.frames.make_room_for(frame)?;
-        self.frames.go_on(n, &[], place);
+        self.frames.pass(n, place);
         self.frames.push(frame);
         Ok(Outcome::Done)
     }
 
     /// The innermost frame is left with a value.
+    #[inline(never)]
     pub(super) fn leaves(&mut self, x: Value) -> Result<Outcome, NoMemory>
         ensures ok { IfOk result (λ o. Settles (returned self.old x (drop 1 self.old.frames)) o self.new) }
         ensures err { OnErr result (self.new ≡ self.old) }
@@ -118,13 +121,14 @@ impl ThreadState {
     }
 
     /// The program's roots stand there, and the next place follows.
+    #[inline(never)]
     fn begins(&mut self, n: usize, roots: Addr) -> Result<Outcome, NoMemory>
         ensures ok { IfOk result (λ o. Settles (Done, record (with_top self.old (passed n)) { roots = Some roots }) o
             self.new) }
         ensures err { OnErr result (self.new ≡ self.old) }
     {
         let place = self.frames.next_place()?;
-        self.frames.go_on(n, &[], place);
+        self.frames.pass(n, place);
         self.roots = Some(roots);
         Ok(Outcome::Done)
     }
@@ -143,6 +147,7 @@ impl ThreadState {
     }
 
     /// The same, at the line of the innermost frame's instruction.
+    #[inline(never)]
     fn raises(&mut self, program: &Program, first: usize, x: Value) -> Result<Outcome, NoMemory>
         ensures ok { IfOk result (λ o. Settles (
           Done,
