@@ -202,6 +202,18 @@ impl Pages {
         self.sheets[k as usize].set(place as usize, w);
     }
 
+    /// Puts other words of a segment in the two places from an even one on, of a page of its own. They lie in that
+    /// page, which is found once. It takes no memory.
+    pub fn write_two(&mut self, k: u8, place: u32, first: u64, second: u64)
+        requires segment { k < (table_of self.old).segments }
+        requires span { place + 1 < (table_of self.old).reserved }
+        requires even { place % 2 ≡ 0 }
+        requires own { (table_of self.old).own k (place / 512) ≡ true }
+        ensures { table_of self.new ≡ after_write k (place + 1) second (after_write k place first (table_of self.old)) }
+    {
+        self.sheets[k as usize].set_two(place as usize, first, second);
+    }
+
     /// Puts another word of a segment in a place, and makes the page its own first.
     pub fn set_word(&mut self, k: u8, place: u32, w: u64) -> Result<(), NoMemory>
         requires segment { k < (table_of self.old).segments }
