@@ -37,16 +37,22 @@ fn spread(sheets: &mut Vec<Sheet>, k: usize, shared: &[u64], place: usize, n: us
     }
 }
 
-/// Adds words that are 0, for which there is room.
+/// Adds words that are 0, for which there is room. A few are added one by one.
 fn lengthen(shared: &mut Vec<u64>, size: usize)
     requires room { length shared.old.items + size ≤ vec_capacity shared.old }
     requires small { length shared.old.items + size < 2 ^ 40 }
     ensures words { word_at shared.new.items ≡ word_at shared.old.items }
     ensures length { length shared.new.items ≡ length shared.old.items + size }
 {
-    let end = shared.len() + size;
-    if shared.resize(end, 0).is_err() {
-        unreachable!();
+    if size > 8 {
+        let end = shared.len() + size;
+        if shared.resize(end, 0).is_err() {
+            unreachable!();
+        }
+    } else {
+        'words: for _i in 0..size {
+            shared.push_reserved(0);
+        }
     }
 }
 

@@ -223,7 +223,7 @@ fn a_restore_takes_back_one_segment(rt: HostRuntime) -> Result<(), Fail> {
 fn two_words_are_written_at_once(rt: HostRuntime) -> Result<(), Fail> {
     let mut pages = Pages::new(rt.alloc(), 2, 2)?;
     assert_eq!(rt; reserve(&rt, &mut pages, 9)?, 2);
-    pages.open_page(1, 0)?;
+    set(&rt, &mut pages, 1, 510, 9)?;
     write_pair(&rt, &mut pages, 1, 510, 3, 4);
     write_pair(&rt, &mut pages, 1, 508, 1, 2);
     for (place, w) in [(507, 0), (508, 1), (509, 2), (510, 3), (511, 4), (512, 0)] {
