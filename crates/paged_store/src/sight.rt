@@ -104,7 +104,7 @@ pub fn val(pages: &Pages, seen: Seen, a: u32, i: usize) -> Value
 }
 
 /// The first three words of a record's header: its kind and classes, its count, and where its body begins.
-fn head_words(pages: &Pages, seen: Seen, a: u32) -> (u64, u64, u64)
+pub(crate) fn head_words(pages: &Pages, seen: Seen, a: u32) -> (u64, u64, u64)
     requires { CanRead (table_of pages.now) seen a }
     ensures first { result.0 ≡ words_seen (table_of pages.now) seen (2 * a) }
     ensures count { result.1 ≡ count_by (words_seen (table_of pages.now) seen) a }
@@ -121,19 +121,29 @@ fn head_words(pages: &Pages, seen: Seen, a: u32) -> (u64, u64, u64)
     }
 }
 
-/// Its kind, how many values it has, of which a Str has none, and where its body begins, if it has one. The header is
+/// Its kind, its count, which is of a Str that of its bytes, and where its body begins, if it has one. The header is
 /// read once.
+pub(crate) fn layout(pages: &Pages, seen: Seen, a: u32) -> (Kind, usize, usize)
+    requires { CanRead (table_of pages.now) seen a }
+    ensures kind { result.0 ≡ (record_seen (table_of pages.now) seen a).kind }
+    ensures count { result.1 ≡ length_of (record_seen (table_of pages.now) seen a) }
+    ensures body { result.2 ≡ body_by (words_seen (table_of pages.now) seen) a }
+{
+    let (first, count, body) = head_words(pages, seen, a);
+    (Header::of(first).kind, count as usize, body as usize)
+}
+
+/// The same with how many values it has, of which a Str has none.
 fn outline(pages: &Pages, seen: Seen, a: u32) -> (Kind, usize, usize)
     requires { CanRead (table_of pages.now) seen a }
     ensures kind { result.0 ≡ (record_seen (table_of pages.now) seen a).kind }
     ensures count { result.1 ≡ length (record_seen (table_of pages.now) seen a).values }
     ensures body { result.2 ≡ body_by (words_seen (table_of pages.now) seen) a }
 {
-    let (first, count, body) = head_words(pages, seen, a);
-    let kind = Header::of(first).kind;
+    let (kind, count, body) = layout(pages, seen, a);
     match kind {
-        Kind::Str => (kind, 0, body as usize),
-        _ => (kind, count as usize, body as usize),
+        Kind::Str => (kind, 0, body),
+        _ => (kind, count, body),
     }
 }
 
