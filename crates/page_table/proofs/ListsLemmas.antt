@@ -2,12 +2,12 @@
 use Rattle.std.proofs.Common.{◌≡◌, ℕ, ◌+◌, ◌*◌, ◌/◌, ◌%◌, ◌^◌, ◌<◌, ◌≤◌, Bool, false, List, [], ◌∷◌, ◌++◌, length, get_or, set, replicate, zero, suc, Option, Some, None, refl, sym, ◌∙◌, ap, subst, inl, inr, arith}
 use Rattle.std.proofs.lemmas.List.{get_or_past, get_or_default, get_or-set_same, get_or-set_other, length-set, length-replicate}
 use Rattle.std.proofs.lemmas.Bool.Decides.{eqb_tells, leb_tells}
-use Rattle.page_table.specs.Pages.{put, over, Table, Shelf, IsTable, no_shelf, new_table, after_push}
+use Rattle.page_table.specs.Pages.{put, over, Table, Shelf, IsTable, no_shelf, new_table, after_write, after_push}
 use Rattle.page_table.specs.Reserving.{TakesAgain, TakesNew}
 use Rattle.page_table.specs.Lists.{Sheet, Lists, word_at, word_in, sheet_in, word_over, has_page, sheet_at, shelf_at, table_of}
 use Rattle.page_table.specs.inner.Sound.{IsSound}
 use Rattle.page_table.specs.inner.Spreading.{HasWords, Spread}
-use Rattle.page_table.proofs.Spans.{same_at_all, in_or_out, over_in, over_out, over_itself, word_at-replicate}
+use Rattle.page_table.proofs.Spans.{put_here, same_at_all, in_or_out, over_in, over_out, over_itself, word_at-replicate}
 use Rattle.page_table.proofs.SheetLemmas.{push_seen}
 
 -- a segment that had the words of a span still has them
@@ -105,6 +105,51 @@ pub share_of : (k place n : ℕ) (g h : ℕ → ℕ) (sheets : List (List (Optio
     → h ≡ over place n (word_over (sheet_at sheets k) g) g
 share_of k place n g h sheets x within read e = e
     ∙ ap (λ z. over place n (word_over z g) g) (read_sheet sheets k x within read)
+
+-- ---- words that are put
+
+-- pages of which segment k has others, with the words f and a page of the same numbers
+pub sheet_put : (k : ℕ) (x : List (Option (List ℕ))) (f : ℕ → ℕ) (s : Lists) → k < length s.sheets
+    → word_over (sheet_in x) (word_at s.shared) ≡ f → has_page (sheet_in x) ≡ has_page (sheet_at s.sheets k)
+    → table_of (record s { sheets = set s.sheets k x })
+    ≡ record (table_of s) { word = put k f (table_of s).word }
+sheet_put k x f s within is has = λ i. record {
+  shared = word_at s.shared;
+  word = words i;
+  own = own i;
+  shelf = shelf_at s.shelves;
+  reserved = length s.shared;
+  pages = s.pages;
+  segments = length-set s.sheets k x i;
+}
+  where
+    words : ◌≡◌ {A = ℕ → ℕ → ℕ} (λ j. word_over (sheet_at (set s.sheets k x) j) (word_at s.shared))
+        (put k f (λ j. word_over (sheet_at s.sheets j) (word_at s.shared)))
+    words = same_at_all _ _ (λ j. elim (eqb_tells j k) [
+      | inl h ↦ rw (h.0, h.1)
+          (ap (λ z. word_over (sheet_in z) (word_at s.shared)) (get_or-set_same s.sheets k x [] within) ∙ is)
+      | inr h ↦ rw h.0 (ap (λ z. word_over (sheet_in z) (word_at s.shared)) (get_or-set_other s.sheets k j x [] h.1))
+    ])
+
+    own : ◌≡◌ {A = ℕ → ℕ → Bool} (λ j. has_page (sheet_at (set s.sheets k x) j))
+        (λ j. has_page (sheet_at s.sheets j))
+    own = same_at_all _ _ (λ j. elim (eqb_tells j k) [
+      | inl h ↦ rw h.1 (ap (λ z. has_page (sheet_in z)) (get_or-set_same s.sheets k x [] within) ∙ has)
+      | inr h ↦ ap (λ z. has_page (sheet_in z)) (get_or-set_other s.sheets k j x [] h.1)
+    ])
+
+-- two words that are put at once
+pub two_put : (k place v w : ℕ) (t : Table)
+    → record t { word = put k (put (place + 1) w (put place v (t.word k))) t.word }
+    ≡ after_write k (place + 1) w (after_write k place v t)
+two_put k place v w t = λ i. record t { word = words i }
+  where
+    words : ◌≡◌ {A = ℕ → ℕ → ℕ} (put k (put (place + 1) w (put place v (t.word k))) t.word)
+        (after_write k (place + 1) w (after_write k place v t)).word
+    words = same_at_all _ _ (λ j. elim (eqb_tells j k) [
+      | inl h ↦ rw h.0 (ap (put (place + 1) w) (sym (put_here k k (put place v (t.word k)) t.word refl)))
+      | inr h ↦ rw h.0 refl
+    ])
 
 -- ---- extents
 

@@ -121,6 +121,40 @@ words_put sheet place w old page below was now = same_at_all _ _ (λ p. elim (eq
     same_place : (p q : ℕ) → p / 512 ≡ q / 512 → p % 512 ≡ q % 512 → p ≡ q
     same_place p q e f = omega arith
 
+-- a page of which two words were put, the first at an even place
+pub words_put_two : (sheet : Sheet) (place v w : ℕ) (old page : List ℕ) (below : ℕ → ℕ) → place % 2 ≡ 0
+    → sheet (place / 512) ≡ Some old → word_at page ≡ put (place % 512 + 1) w (put (place % 512) v (word_at old))
+    → word_over (put (place / 512) (Some page) sheet) below
+    ≡ put (place + 1) w (put place v (word_over sheet below))
+words_put_two sheet place v w old page below even was now =
+    same_at_all _ _ (λ p. elim (eqb_tells (p / 512) (place / 512)) [
+      | inl h ↦ word_of_page (put (place / 512) (Some page) sheet) below p (Some page)
+          (put_here (place / 512) (p / 512) (Some page) sheet h.1) ∙ ap (λ f. f (p % 512)) now
+          ∙ here p h.1
+      | inr h ↦ word_of_other sheet (place / 512) (Some page) below p h.1
+          ∙ sym (put_elsewhere place p v (word_over sheet below) (λ e. h.1 (ap (λ x. x / 512) e)))
+          ∙ sym (put_elsewhere (place + 1) p w (put place v (word_over sheet below))
+          (λ e. h.1 (let q : p / 512 ≡ place / 512 = omega (arith, e, even) in q)))
+    ])
+  where
+    here : (p : ℕ) → p / 512 ≡ place / 512
+        → put (place % 512 + 1) w (put (place % 512) v (word_at old)) (p % 512)
+        ≡ put (place + 1) w (put place v (word_over sheet below)) p
+    here p same = elim (eqb_tells p (place + 1)) [
+      | inl a ↦ put_here (place % 512 + 1) (p % 512) w (put (place % 512) v (word_at old)) (omega (arith, a.1, even))
+          ∙ sym (put_here (place + 1) p w (put place v (word_over sheet below)) a.1)
+      | inr a ↦ put_elsewhere (place % 512 + 1) (p % 512) w (put (place % 512) v (word_at old))
+          (λ e. a.1 (omega (arith, e, same, even)))
+          ∙ elim (eqb_tells p place) [
+            | inl b ↦ put_here (place % 512) (p % 512) v (word_at old) (ap (λ x. x % 512) b.1)
+                ∙ sym (put_here place p v (word_over sheet below) b.1)
+            | inr b ↦ put_elsewhere (place % 512) (p % 512) v (word_at old) (λ e. b.1 (omega (arith, e, same)))
+                ∙ sym (word_of_page sheet below p (Some old) (ap sheet same ∙ was))
+                ∙ sym (put_elsewhere place p v (word_over sheet below) b.1)
+          ]
+          ∙ sym (put_elsewhere (place + 1) p w (put place v (word_over sheet below)) a.1)
+    ]
+
 -- a page of which a part was put
 pub words_copied : (sheet : Sheet) (place n : ℕ) (old page : List ℕ) (f : ℕ → ℕ) (below : ℕ → ℕ)
     → place % 512 + n ≤ 512 → sheet (place / 512) ≡ Some old

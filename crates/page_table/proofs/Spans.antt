@@ -192,7 +192,7 @@ pub lent_back : (n : ℕ) (xs ys : List ℕ) → n ≡ length xs → length ys �
     → take n (ys ++ drop (length ys) xs) ≡ ys
 lent_back n xs ys a b = take_at ys (drop (length ys) xs) n (b ∙ sym a)
 
-zeros_after : (ws : List ℕ) (n : ℕ) → word_at (ws ++ replicate n 0) ≡ word_at ws
+pub zeros_after : (ws : List ℕ) (n : ℕ) → word_at (ws ++ replicate n 0) ≡ word_at ws
 unfolding word_at
 zeros_after ws n = same_at_all _ _ (λ p. elim (leb_tells (suc p) (length ws)) [
   | inl a ↦ get_or_append_left ws (replicate n 0) 0 p (omega (arith, a.1))

@@ -71,6 +71,15 @@ impl Page {
         self.words[i] = w;
     }
 
+    /// Puts other words in two places, one behind the other.
+    pub fn set_two(&mut self, i: usize, first: u64, second: u64)
+        requires { i + 1 < 512 }
+        ensures { word_at self.new ≡ put (i + 1) second (put i first (word_at self.old)) }
+    {
+        self.set(i, first);
+        self.set(i + 1, second);
+    }
+
     /// Puts other words in the places from one on.
     pub fn set_words(&mut self, i: usize, words: &[u64])
         requires { i + length words.now ≤ 512 }

@@ -37,16 +37,22 @@ fn spread(sheets: &mut Vec<Sheet>, k: usize, shared: &[u64], place: usize, n: us
     }
 }
 
-/// Adds words that are 0, for which there is room.
+/// Adds words that are 0, for which there is room. A few are added one by one.
 fn lengthen(shared: &mut Vec<u64>, size: usize)
     requires room { length shared.old.items + size ≤ vec_capacity shared.old }
     requires small { length shared.old.items + size < 2 ^ 40 }
     ensures words { word_at shared.new.items ≡ word_at shared.old.items }
     ensures length { length shared.new.items ≡ length shared.old.items + size }
 {
-    let end = shared.len() + size;
-    if shared.resize(end, 0).is_err() {
-        unreachable!();
+    if size > 8 {
+        let end = shared.len() + size;
+        if shared.resize(end, 0).is_err() {
+            unreachable!();
+        }
+    } else {
+        'words: for _i in 0..size {
+            shared.push_reserved(0);
+        }
     }
 }
 
@@ -200,6 +206,18 @@ impl Pages {
         ensures { table_of self.new ≡ after_write k place w (table_of self.old) }
     {
         self.sheets[k as usize].set(place as usize, w);
+    }
+
+    /// Puts other words of a segment in the two places from an even one on, of a page of its own. They lie in that
+    /// page, which is found once. It takes no memory.
+    pub fn write_two(&mut self, k: u8, place: u32, first: u64, second: u64)
+        requires segment { k < (table_of self.old).segments }
+        requires span { place + 1 < (table_of self.old).reserved }
+        requires even { place % 2 ≡ 0 }
+        requires own { (table_of self.old).own k (place / 512) ≡ true }
+        ensures { table_of self.new ≡ after_write k (place + 1) second (after_write k place first (table_of self.old)) }
+    {
+        self.sheets[k as usize].set_two(place as usize, first, second);
     }
 
     /// Puts another word of a segment in a place, and makes the page its own first.

@@ -149,6 +149,20 @@ impl Sheet {
         }
     }
 
+    /// Puts other words in the two places from an even one on, of a page of its own. Both lie in it.
+    pub fn set_two(&mut self, place: usize, first: u64, second: u64)
+        requires has { has_page (sheet_in self.old) (place / 512) ≡ true }
+        requires even { place % 2 ≡ 0 }
+        ensures words { (below : ℕ → ℕ) → word_over (sheet_in self.new) below
+            ≡ put (place + 1) second (put place first (word_over (sheet_in self.old) below)) }
+        ensures own { has_page (sheet_in self.new) ≡ has_page (sheet_in self.old) }
+    {
+        match &mut self.pages[place / 512] {
+            Some(page) => page.set_two(place % 512, first, second),
+            None => unreachable!(),
+        }
+    }
+
     /// Puts other words in the places from one on, of a page of its own.
     fn set_words(&mut self, place: usize, words: &[u64])
         requires has { has_page (sheet_in self.old) (place / 512) ≡ true }

@@ -69,8 +69,9 @@ impl Shelf {
         ensures { self.new
             ≡ (if is_ok result then record { spare = self.old.spare; total = self.old.total + 1 } else self.old) }
     {
-        let used = self.places.len();
-        self.places.reserve(self.total - used + 1)?;
+        if self.total == self.places.capacity() {
+            self.places.reserve(self.total - self.places.len() + 1)?;
+        }
         self.total += 1;
         Ok(())
     }

@@ -39,6 +39,16 @@ fn write(rt: &impl Abort, pages: &mut Pages, k: u8, place: u32, w: u64) {
     pages.write_word(k, place, w);
 }
 
+/// Puts other words of a segment in the two places from an even one on, of a page of its own.
+fn write_pair(rt: &impl Abort, pages: &mut Pages, k: u8, place: u32, first: u64, second: u64) {
+    assert!(rt; k < pages.segments());
+    assert!(rt; u64::from(place) + 1 < pages.reserved());
+    assert!(rt; 512 * u64::from(place / 512) < pages.limit());
+    assert!(rt; pages.is_private(k, place / 512));
+    assert!(rt; place % 2 == 0);
+    pages.write_two(k, place, first, second);
+}
+
 /// Whether a segment has a page of its own.
 fn has_page(rt: &impl Abort, pages: &Pages, k: u8, page: u32) -> bool {
     assert!(rt; k < pages.segments());
@@ -205,6 +215,20 @@ fn a_restore_takes_back_one_segment(rt: HostRuntime) -> Result<(), Fail> {
     for (place, w) in [(500, 8), (511, 0), (512, 0), (1_024, 0), (1_025, 8)] {
         assert_eq!(rt; word(&rt, &pages, 1, place), w, "{place}");
         assert_eq!(rt; word(&rt, &pages, 0, place), 4, "{place}");
+    }
+    Ok(())
+}
+
+#[test]
+fn two_words_are_written_at_once(rt: HostRuntime) -> Result<(), Fail> {
+    let mut pages = Pages::new(rt.alloc(), 2, 2)?;
+    assert_eq!(rt; reserve(&rt, &mut pages, 9)?, 2);
+    set(&rt, &mut pages, 1, 510, 9)?;
+    write_pair(&rt, &mut pages, 1, 510, 3, 4);
+    write_pair(&rt, &mut pages, 1, 508, 1, 2);
+    for (place, w) in [(507, 0), (508, 1), (509, 2), (510, 3), (511, 4), (512, 0)] {
+        assert_eq!(rt; word(&rt, &pages, 1, place), w, "{place}");
+        assert_eq!(rt; word(&rt, &pages, 0, place), 0, "{place}");
     }
     Ok(())
 }

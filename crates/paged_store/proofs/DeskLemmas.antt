@@ -18,6 +18,34 @@ pub on_err : {T E P : Type 0} (x : Result T E) → P → OnErr x P
 on_err (Ok y) h = tt
 on_err (Err e) h = h
 
+-- ---- two words that are noted one after another; at want of memory none or one of them
+
+noted_next : (w : Words) (place j x p : ℕ) (old now new : List Note) → now ≡ with_notes w place j old →
+    new ≡ now ++ record { place = p; word = x } ∷ [] → p ≡ place + j → x ≡ w (place + j) →
+    new ≡ with_notes w place (suc j) old
+noted_next w place j x p old now new e f ep ex = f
+    ∙ (λ i. e i ++ record { place = ep i; word = ex i } ∷ [])
+    ∙ append_assoc old (listed j (note_of w place)) (note_of w place j ∷ [])
+
+noted_one : (w : Words) (place x : ℕ) (old new : List Note) → new ≡ old ++ record { place = place; word = x } ∷ [] →
+    x ≡ w place → new ≡ with_notes w place 1 old
+noted_one w place x old new e ex = noted_next w place 0 x place old old new (sym (append-nil old)) e (omega arith)
+    (ex ∙ ap w (omega arith))
+
+pub none_noted : (w : Words) (place : ℕ) (old new : List Note) → new ≡ old → NotedSome w place 2 old new
+none_noted w place old new e = record { count = 0; within = omega arith; is = e ∙ sym (append-nil old) }
+
+pub one_noted : (w : Words) (place x : ℕ) (old one new : List Note) →
+    one ≡ old ++ record { place = place; word = x } ∷ [] → x ≡ w place → new ≡ one → NotedSome w place 2 old new
+one_noted w place x old one new e ex f =
+    record { count = 1; within = omega arith; is = f ∙ noted_one w place x old one e ex }
+
+pub noted_two : (w : Words) (place x y : ℕ) (old one two : List Note) →
+    one ≡ old ++ record { place = place; word = x } ∷ [] → two ≡ one ++ record { place = place + 1; word = y } ∷ [] →
+    x ≡ w place → y ≡ w (place + 1) → two ≡ with_notes w place 2 old
+noted_two w place x y old one two e f ex ey =
+    noted_next w place 1 y (place + 1) old one two (noted_one w place x old one e ex) f refl ey
+
 -- ---- one change after another
 
 pub same_then : (k : ℕ) (a b c : Desk) → SameBut k a b → SameBut k b c → SameBut k a c

@@ -191,6 +191,8 @@ module _ (k a n body index : ℕ) (old ready taken : Desk) (g : MayGrow (old.tab
         may_head = head_can;
         may_body = subst Q same_words body_can;
         may_index = subst R same_words index_can;
+        even = λ some. first_even (grown_class w a) body _ (extent_for (grown_index w a) index)
+            (let r = g.room in omega (arith, r, some)) t.claims.lie;
         apart = subst S same_words apart;
       }
 

@@ -1,5 +1,5 @@
 -- The extents that a new record takes, and the draft that has made it.
-use Rattle.std.proofs.Common.{◌≡◌, ℕ, ◌+◌, ◌*◌, ◌/◌, ◌≤◌, true, ◌||◌, List, [], ◌∷◌, ◌++◌, length, take, set, map, sym, ◌∙◌, ap, subst, arith}
+use Rattle.std.proofs.Common.{◌≡◌, ℕ, ◌+◌, ◌*◌, ◌/◌, ◌%◌, ◌<◌, ◌≤◌, true, ◌||◌, List, [], ◌∷◌, ◌++◌, length, take, set, map, sym, ◌∙◌, ap, subst, arith}
 use Rattle.std.proofs.lemmas.Bool.{or_left, or_right}
 use Rattle.std.proofs.lemmas.List.{length-map, length-append, map-set, take-map, map-append}
 use Rattle.std.proofs.Math.Seq.{set-append_seam, take-append_seam}
@@ -18,7 +18,7 @@ use Rattle.paged_store.specs.inner.Making.{made_length as made_count, body_class
 use Rattle.paged_store.specs.inner.Writing.{Desk, CanPut, with_words, filled_words}
 use Rattle.paged_store.proofs.RecordWords.{size_of_next}
 use Rattle.paged_store.proofs.MakeWords.{made_class_most, made_index_small}
-use Rattle.paged_store.proofs.GrowTakes.{extent_in}
+use Rattle.paged_store.proofs.GrowTakes.{extent_in, next_even}
 use Rattle.paged_store.proofs.WriteCall.{extents_both}
 
 -- the classes of its extents are at most the greatest
@@ -75,6 +75,10 @@ module _ (k head body index : ℕ) (r : Record) (old taken : Desk)
     own = λ p h.
         t.opened p (in_its_body p (ap (λ z. in_span body (size_of z) p) (sym e) ∙ h));
   }
+
+  pub body_even : (c : ℕ) → c ≡ body_class r → 0 < size_of c → body % 2 ≡ 0
+  body_even c e some = next_even 1 head (body_class r) body taken.table.reserved (extent_for (index_class r) index)
+      (subst (λ z. 0 < size_of z) e some) t.claims.lie
 
   pub index_can : (c : ℕ) → c ≡ index_class r → index + size_of c ≤ taken.table.reserved →
       CanPut k index (size_of c) taken.table

@@ -131,11 +131,54 @@ values_more k p i next vs d w a b c h e s r =
 
 -- ---- a header
 
-pub head_put : (k a first body index y z : ℕ) (d t u v : Table) → t ≡ after_write k (2 * a + 3) y d →
-    u ≡ after_write k (2 * a + 2) z t → v ≡ after_write k (2 * a) first u → y ≡ index → z ≡ body →
-    v ≡ with_words k (headed a first body index (d.word k)) d
-head_put k a first body index y z d t u v e f g i b =
+-- words at two places, in either order
+words_swap : (p q x y : ℕ) (w : Words) → p ≢ q → put_word p x (put_word q y w) ≡ put_word q y (put_word p x w)
+words_swap p q x y w n = λ i r. at r i
+  where
+    at : (r : ℕ) → put_word p x (put_word q y w) r ≡ put_word q y (put_word p x w) r
+    at r = elim (eqb_tells r p) [
+      | inl e ↦ elim (eqb_tells r q) [ inl f ↦ absurd (n (sym e.1 ∙ f.1)) | inr f ↦ rw (e.0, f.0) refl ]
+      | inr e ↦ elim (eqb_tells r q) [ inl f ↦ rw (e.0, f.0) refl | inr f ↦ rw (e.0, f.0) refl ]
+    ]
+
+pub head_put : (k a first body index y z : ℕ) (d t u : Table) →
+    t ≡ after_write k (2 * a + 2 + 1) y (after_write k (2 * a + 2) z d) → u ≡ after_write k (2 * a) first t → y ≡ index
+    → z ≡ body → u ≡ with_words k (headed a first body index (d.word k)) d
+head_put k a first body index y z d t u e f i b =
     let w : Words = d.word k in
-    words_then k (put_word (2 * a + 2) z (put_word (2 * a + 3) y w)) (put_word (2 * a) first) d u v
-    (words_then k (put_word (2 * a + 3) y w) (put_word (2 * a + 2) z) d t u e f) g
-    ∙ (λ j. with_words k (headed a first (b j) (i j) w) d)
+    let pair : Words = put_word (2 * a + 2 + 1) y (put_word (2 * a + 2) z w) in
+    let places : t ≡ with_words k pair d =
+    words_then k (put_word (2 * a + 2) z w) (put_word (2 * a + 2 + 1) y) d (after_write k (2 * a + 2) z d) t refl e in
+    words_then k pair (put_word (2 * a) first) d t u places f
+    ∙ (λ j. with_words k (put_word (2 * a) first (words_swap (2 * a + 2 + 1) (2 * a + 2) y z w (λ e. omega arith) j)) d)
+    ∙ (λ j. with_words k (put_word (2 * a) first (put_word (2 * a + 2) (b j) (put_word (last j) (i j) w))) d)
+  where
+    last : 2 * a + 2 + 1 ≡ 2 * a + 3
+    last = omega arith
+
+pub header_put : (k a first n body index y z : ℕ) (d t u : Table) →
+    t ≡ after_write k (2 * a + 1) n (after_write k (2 * a) first d) →
+    u ≡ after_write k (2 * a + 2 + 1) y (after_write k (2 * a + 2) z t) → y ≡ index → z ≡ body →
+    u ≡ with_words k (headed a first body index (put_word (2 * a + 1) n (d.word k))) d
+header_put k a first n body index y z d t u e f i b =
+    let w : Words = d.word k in
+    let counted : Words = put_word (2 * a + 1) n w in
+    let one : Words = put_word (2 * a + 1) n (put_word (2 * a) first w) in
+    let two : Words = put_word (2 * a + 2) z one in
+    let first_two : t ≡ with_words k one d =
+    words_then k (put_word (2 * a) first w) (put_word (2 * a + 1) n) d (after_write k (2 * a) first d) t refl e in
+    let all : u ≡ with_words k (put_word (2 * a + 2 + 1) y two) d =
+    words_then k two (put_word (2 * a + 2 + 1) y) d (after_write k (2 * a + 2) z t) u
+    (words_then k one (put_word (2 * a + 2) z) d t (after_write k (2 * a + 2) z t) first_two refl) f in
+    all ∙ (λ j. with_words k (put_word (2 * a + 2 + 1) y (put_word (2 * a + 2) z
+    (words_swap (2 * a + 1) (2 * a) n first w (λ e. omega arith) j))) d)
+    ∙ (λ j. with_words k (put_word (2 * a + 2 + 1) y
+    (words_swap (2 * a + 2) (2 * a) z first counted (λ e. omega arith) j)) d)
+    ∙ (λ j. with_words k
+    (words_swap (2 * a + 2 + 1) (2 * a) y first (put_word (2 * a + 2) z counted) (λ e. omega arith) j) d)
+    ∙ (λ j. with_words k (put_word (2 * a) first
+    (words_swap (2 * a + 2 + 1) (2 * a + 2) y z counted (λ e. omega arith) j)) d)
+    ∙ (λ j. with_words k (put_word (2 * a) first (put_word (2 * a + 2) (b j) (put_word (last j) (i j) counted))) d)
+  where
+    last : 2 * a + 2 + 1 ≡ 2 * a + 3
+    last = omega arith

@@ -1,14 +1,15 @@
 -- One span, extent or note more.
-use Rattle.std.proofs.Common.{◌≡◌, ℕ, ◌+◌, ◌^◌, ◌<◌, Bool, true, false, cond, ◌||◌, eqb, List, [], ◌∷◌, ◌++◌, length, get_or, take, drop, refl, sym, ◌∙◌, ap}
+use Rattle.std.proofs.Common.{◌≡◌, ℕ, ◌+◌, ◌^◌, ◌<◌, Bool, true, false, cond, ◌||◌, eqb, List, [], ◌∷◌, ◌++◌, length, get_or, take, drop, refl, sym, ◌∙◌, ap, arith}
+use Rattle.std.proofs.lemmas.Bool.Decides.{nat_tests}
 use Rattle.std.proofs.lemmas.List.{take_more, drop_more}
-use Rattle.page_table.specs.Pages.{Table, in_span, after_write, after_push, after_restore}
+use Rattle.page_table.specs.Pages.{Table, Lies, in_span, after_write, after_push, after_restore}
 use Rattle.paged_store.specs.declared.extent.Span.{Span}
 use Rattle.paged_store.specs.declared.extent.Extent.{Extent}
 use Rattle.paged_store.specs.declared.extent.Note.{Note}
 use Rattle.paged_store.specs.Words.{Words}
 use Rattle.paged_store.specs.inner.Moves.{put, given, nowhere}
 use Rattle.paged_store.specs.inner.Paged.{in_spans, in_extent, in_extents, rewound}
-use Rattle.paged_store.specs.inner.Ending.{pushes, restores, with_words}
+use Rattle.paged_store.specs.inner.Ending.{IsRun, pushes, restores, with_words}
 use Rattle.paged_store.proofs.MeaningLemmas.{put_here}
 use Rattle.paged_store.proofs.OverLemmas.{put_self}
 
@@ -41,6 +42,42 @@ extents_more xs y = λ i p. here xs p i
     here [] p = or_last (in_extent y p)
     here (x ∷ xs) p = ap (λ b. in_extent x p || b) (here xs p) ∙
         sym (or_more (in_extent x p) (in_extents xs p) (in_extent y p))
+
+-- ---- extents that lie side by side
+
+pub run_one : (end from n : ℕ) (xs : List Extent) (d : Extent) → from < length xs → n ≡ 2 ^ (get_or xs from d).class →
+    Lies (get_or xs from d).class (get_or xs from d).place end → IsRun end xs from (from + 1) (get_or xs from d).place n
+run_one end from n xs d h e lies =
+    let x : Extent = get_or xs from d in
+    record {
+      more = omega arith;
+      most = omega (arith, h);
+      within = omega (arith, e, lies.within);
+      places = ap in_extents (take_more xs from d h) ∙ extents_more (take from xs) x
+          ∙ ap (λ m. either_of (in_extents (take from xs)) (in_span x.place m)) (sym e);
+    }
+
+pub run_more : (end from to place words n : ℕ) (xs : List Extent) (d : Extent) → IsRun end xs from to place words →
+    to < length xs → n ≡ 2 ^ (get_or xs to d).class → (get_or xs to d).place ≡ place + words →
+    Lies (get_or xs to d).class (get_or xs to d).place end → IsRun end xs from (to + 1) place (words + n)
+run_more end from to place words n xs d run h e next lies =
+    let x : Extent = get_or xs to d in
+    record {
+      more = omega (arith, run.more);
+      most = omega (arith, h);
+      within = omega (arith, e, next, lies.within);
+      places = ap in_extents (take_more xs to d h) ∙ extents_more (take to xs) x
+          ∙ (λ i. either_of (run.places i) (in_span (next i) (sym e i)))
+          ∙ (λ i p. joined p i);
+    }
+  where
+    span_then : (p : ℕ) → (in_span place words p || in_span (place + words) n p) ≡ in_span place (words + n) p
+    span_then p = grind (arith, nat_tests)
+
+    joined : (p : ℕ) → ((in_extents (take from xs) p || in_span place words p) || in_span (place + words) n p)
+        ≡ (in_extents (take from xs) p || in_span place (words + n) p)
+    joined p = or_more (in_extents (take from xs) p) (in_span place words p) (in_span (place + words) n p)
+        ∙ ap (λ b. in_extents (take from xs) p || b) (span_then p)
 
 -- ---- words that are published and restored
 
@@ -101,14 +138,12 @@ push_span_step k i xs d t u v l a b =
     b ∙ ap (after_push k x.place x.words) a ∙ pushes_twice k (in_spans (take i xs)) (in_span x.place x.words) t
     ∙ ap (λ f. pushes k f t) (sym (ap in_spans (take_more xs i d l) ∙ spans_more (take i xs) x))
 
-pub push_extent_step : (k i : ℕ) (xs : List Extent) (d : Extent) (n : ℕ) (t u v : Table) → i < length xs →
-    n ≡ 2 ^ (get_or xs i d).class → u ≡ pushes k (in_extents (take i xs)) t
-    → v ≡ after_push k (get_or xs i d).place n u → v ≡ pushes k (in_extents (take (i + 1) xs)) t
-push_extent_step k i xs d n t u v l e a b =
-    let x : Extent = get_or xs i d in
-    b ∙ ap (λ m. after_push k x.place m u) e ∙ ap (after_push k x.place (2 ^ x.class)) a ∙
-    pushes_twice k (in_extents (take i xs)) (in_extent x) t
-    ∙ ap (λ f. pushes k f t) (sym (ap in_extents (take_more xs i d l) ∙ extents_more (take i xs) x))
+pub push_run_step : (k from to place words end : ℕ) (xs : List Extent) (t u v : Table) →
+    IsRun end xs from to place words → u ≡ pushes k (in_extents (take from xs)) t → v ≡ after_push k place words u →
+    v ≡ pushes k (in_extents (take to xs)) t
+push_run_step k from to place words end xs t u v run a b =
+    b ∙ ap (after_push k place words) a ∙ pushes_twice k (in_extents (take from xs)) (in_span place words) t
+    ∙ ap (λ f. pushes k f t) (sym run.places)
 
 pub restore_span_step : (k i : ℕ) (xs : List Span) (d : Span) (t u v : Table) → i < length xs →
     u ≡ restores k (in_spans (take i xs)) t
@@ -118,14 +153,12 @@ restore_span_step k i xs d t u v l a b =
     b ∙ ap (after_restore k x.place x.words) a ∙ restores_twice k (in_spans (take i xs)) (in_span x.place x.words) t
     ∙ ap (λ f. restores k f t) (sym (ap in_spans (take_more xs i d l) ∙ spans_more (take i xs) x))
 
-pub restore_extent_step : (k i : ℕ) (xs : List Extent) (d : Extent) (n : ℕ) (t u v : Table) → i < length xs →
-    n ≡ 2 ^ (get_or xs i d).class → u ≡ restores k (in_extents (take i xs)) t
-    → v ≡ after_restore k (get_or xs i d).place n u → v ≡ restores k (in_extents (take (i + 1) xs)) t
-restore_extent_step k i xs d n t u v l e a b =
-    let x : Extent = get_or xs i d in
-    b ∙ ap (λ m. after_restore k x.place m u) e ∙ ap (after_restore k x.place (2 ^ x.class)) a ∙
-    restores_twice k (in_extents (take i xs)) (in_extent x) t
-    ∙ ap (λ f. restores k f t) (sym (ap in_extents (take_more xs i d l) ∙ extents_more (take i xs) x))
+pub restore_run_step : (k from to place words end : ℕ) (xs : List Extent) (t u v : Table) →
+    IsRun end xs from to place words → u ≡ restores k (in_extents (take from xs)) t →
+    v ≡ after_restore k place words u → v ≡ restores k (in_extents (take to xs)) t
+restore_run_step k from to place words end xs t u v run a b =
+    b ∙ ap (after_restore k place words) a ∙ restores_twice k (in_extents (take from xs)) (in_span place words) t
+    ∙ ap (λ f. restores k f t) (sym run.places)
 
 -- ---- notes that are written back
 

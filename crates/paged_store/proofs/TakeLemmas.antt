@@ -1,19 +1,19 @@
 -- Extents that a draft takes.
-use Rattle.std.proofs.Common.{◌≡◌, ℕ, ◌+◌, ◌/◌, ◌^◌, ◌<◌, Bool, true, List, [], ◌++◌, length, get_or, take, drop, inl, inr, sym, ◌∙◌, ap, subst}
+use Rattle.std.proofs.Common.{◌≡◌, ℕ, ◌/◌, Bool, true, List, [], ◌++◌, length, take, drop, inl, inr, sym, ◌∙◌, ap, subst}
 use Rattle.std.proofs.lemmas.Bool.{or_cases}
-use Rattle.std.proofs.lemmas.List.{append-nil, take_more}
+use Rattle.std.proofs.lemmas.List.{append-nil}
 use Rattle.std.proofs.Math.Seq.{take-append_seam, drop-append_seam}
 use Rattle.page_table.specs.Pages.{Table, IsTable}
 use Rattle.paged_store.specs.declared.extent.Extent.{Extent}
-use Rattle.paged_store.specs.inner.Paged.{in_extent, in_extents}
+use Rattle.paged_store.specs.Words.{in_span}
+use Rattle.paged_store.specs.inner.Paged.{in_extents}
 use Rattle.paged_store.specs.inner.Claiming.{Claims}
-use Rattle.paged_store.specs.inner.Ending.{ExtentsLie, HaveClasses, HaveRoom, GivenBack}
+use Rattle.paged_store.specs.inner.Ending.{ExtentsLie, HaveClasses, IsRun, HaveRoom, GivenBack}
 use Rattle.paged_store.specs.inner.Taking.{OwnExtents, Takes}
 use Rattle.paged_store.specs.inner.Writing.{Desk, Opened, OwnSpan}
-use Rattle.paged_store.proofs.SpanSteps.{extents_more}
 use Rattle.paged_store.proofs.ClaimLemmas.{claims_back, room_claimed}
 
--- ---- pages that are opened, extent by extent
+-- ---- pages that are opened, run by run
 
 pub opened_then : (a b c : Table) → Opened a b → Opened b c → Opened a c
 opened_then a b c o p = record {
@@ -21,15 +21,14 @@ opened_then a b c o p = record {
   own = λ j q h. p.own j q (o.own j q h);
 }
 
-pub own_extents_step : (k i : ℕ) (xs : List Extent) (d : Extent) (n : ℕ) (t u : Table) → i < length xs →
-    n ≡ 2 ^ (get_or xs i d).class
-    → OwnExtents k (take i xs) t → Opened t u → OwnSpan k (get_or xs i d).place n u → OwnExtents k (take (i + 1) xs) u
-own_extents_step k i xs d n t u l e own o here p h =
-    elim (or_cases (in_extents (take i xs) p) (in_extent (get_or xs i d) p)
-    (sym (ap (λ (f : ℕ → Bool). f p) (extents_more (take i xs) (get_or xs i d))) ∙
-    ap (λ ys. in_extents ys p) (sym (take_more xs i d l)) ∙ h)) [
+pub own_run_step : (k from to place words end : ℕ) (xs : List Extent) (t u : Table) →
+    IsRun end xs from to place words → OwnExtents k (take from xs) t → Opened t u → OwnSpan k place words u →
+    OwnExtents k (take to xs) u
+own_run_step k from to place words end xs t u run own o here p h =
+    elim (or_cases (in_extents (take from xs) p) (in_span place words p)
+    (sym (ap (λ (f : ℕ → Bool). f p) run.places) ∙ h)) [
       | inl x ↦ o.own k (p / 512) (own p x)
-      | inr x ↦ subst (λ m. OwnSpan k (get_or xs i d).place m u) e here p x
+      | inr x ↦ here p x
     ]
 
 -- ---- what is taken

@@ -1,12 +1,12 @@
 //! The words of a new record.
-ghost use Rattle.std.specs.Prelude.{◌≡◌, ◌+◌, ◌*◌, ◌/◌, ◌<◌, ◌≤◌, length};
+ghost use Rattle.std.specs.Prelude.{◌≡◌, ◌+◌, ◌*◌, ◌/◌, ◌%◌, ◌<◌, ◌≤◌, length};
 ghost use Rattle.py_data.specs.Heap.{length_by};
 ghost use Rattle.page_table.specs.Lists.{table_of};
 ghost use Rattle.paged_store.specs.Words.{size_of, head_word};
 ghost use Rattle.paged_store.specs.inner.Writing.{CanPut, with_words, filled_words};
 
 use crate::grow::size_of;
-use crate::put::{clear_words, put_bytes, put_head, put_values};
+use crate::put::{clear_words, put_bytes, put_header, put_values};
 use crate::value::Header;
 use page_table::Pages;
 use py_data::{Kind, Record};
@@ -34,6 +34,7 @@ pub(crate) fn fill(
 )
     requires segment { k < (table_of pages.old).segments }
     requires class { header.index ≤ 21 }
+    requires even { 0 < length r.now.values → body % 2 ≡ 0 }
     requires values { 2 * length r.now.values ≤ size_of header.class }
     requires bytes { (length r.now.bytes + 7) / 8 ≤ size_of header.class }
     requires may_head { CanPut k (2 * a) 4 (table_of pages.old) }
@@ -50,6 +51,5 @@ pub(crate) fn fill(
     put_values(pages, k, body, r.values.as_slice());
     put_bytes(pages, k, body, r.bytes.as_slice());
     clear_words(pages, k, index, size_of(header.index));
-    pages.write_word(k, 2 * a + 1, length_of(r));
-    put_head(pages, k, a, header.word(), body, index);
+    put_header(pages, k, a, header.word(), length_of(r), body, index);
 }

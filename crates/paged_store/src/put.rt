@@ -1,29 +1,30 @@
 //! Words of a segment that are put into places which are ready for them. It can't fail.
-ghost use Rattle.std.specs.Prelude.{◌≡◌, ℕ, ◌+◌, ◌*◌, ◌/◌, ◌<◌, ◌≤◌, ◌^◌, false, length};
+ghost use Rattle.std.specs.Prelude.{◌≡◌, ℕ, ◌+◌, ◌*◌, ◌/◌, ◌%◌, ◌<◌, ◌≤◌, ◌^◌, false, length};
 ghost use Rattle.page_table.specs.Lists.{table_of};
 ghost use Rattle.paged_store.specs.Words.{in_span};
 ghost use Rattle.dict_index.specs.Packed.{packed};
-ghost use Rattle.paged_store.specs.inner.Written.{put_value, copied};
+ghost use Rattle.paged_store.specs.inner.Written.{put_word, put_value, copied};
 ghost use Rattle.paged_store.specs.inner.Writing.{CanPut, with_words, laid, cleared, put_values, headed};
 
 use crate::value::{payload, tag};
 use page_table::Pages;
 use py_data::Value;
 
-/// Puts a value into the two words from a place on.
+/// Puts a value into the two words from an even place on.
 pub(crate) fn put_value(pages: &mut Pages, k: u8, place: u32, v: Value)
     requires segment { k < (table_of pages.old).segments }
+    requires even { place % 2 ≡ 0 }
     requires may { CanPut k place 2 (table_of pages.old) }
     ensures { table_of pages.new ≡ with_words k (put_value place v ((table_of pages.old).word k)) (table_of pages.old) }
 {
     pages.known();
-    pages.write_word(k, place, tag(v));
-    pages.write_word(k, place + 1, payload(v));
+    pages.write_two(k, place, tag(v), payload(v));
 }
 
-/// Puts values into the words from a place on.
+/// Puts values into the words from a place on, which is even where there are any.
 pub(crate) fn put_values(pages: &mut Pages, k: u8, place: u32, vs: &[Value])
     requires segment { k < (table_of pages.old).segments }
+    requires even { 0 < length vs.now → place % 2 ≡ 0 }
     requires may { CanPut k place (2 * length vs.now) (table_of pages.old) }
     ensures { table_of pages.new
         ≡ with_words k (put_values place vs.now ((table_of pages.old).word k)) (table_of pages.old) }
@@ -103,7 +104,26 @@ pub(crate) fn put_head(pages: &mut Pages, k: u8, a: u32, first: u64, body: u32, 
         ≡ with_words k (headed a first body index ((table_of pages.old).word k)) (table_of pages.old) }
 {
     pages.known();
-    pages.write_word(k, 2 * a + 3, u64::from(index));
-    pages.write_word(k, 2 * a + 2, u64::from(body));
+    pages.write_two(k, 2 * a + 2, u64::from(body), u64::from(index));
     pages.write_word(k, 2 * a, first);
+}
+
+/// Puts the header of a record: its first word, its count, and the places of its body and its index.
+pub(crate) fn put_header(
+    pages: &mut Pages,
+    k: u8,
+    a: u32,
+    first: u64,
+    count: u64,
+    body: u32,
+    index: u32,
+)
+    requires segment { k < (table_of pages.old).segments }
+    requires may { CanPut k (2 * a) 4 (table_of pages.old) }
+    ensures { let w = put_word (2 * a + 1) count ((table_of pages.old).word k) in
+        table_of pages.new ≡ with_words k (headed a first body index w) (table_of pages.old) }
+{
+    pages.known();
+    pages.write_two(k, 2 * a, first, count);
+    pages.write_two(k, 2 * a + 2, u64::from(body), u64::from(index));
 }

@@ -1,5 +1,5 @@
 //! Making words ready to be written: what can fail of a write comes first.
-ghost use Rattle.std.specs.Prelude.{◌≡◌, ℕ, ◌+◌, ◌/◌, ◌<◌, ◌≤◌, true, OnOk, OnErr};
+ghost use Rattle.std.specs.Prelude.{◌≡◌, ℕ, ◌+◌, ◌/◌, ◌%◌, ◌<◌, ◌≤◌, true, OnOk, OnErr};
 ghost use Rattle.page_table.specs.Lists.{table_of};
 ghost use Rattle.paged_store.specs.Words.{in_span};
 ghost use Rattle.paged_store.specs.inner.Writing.{desk, Refused, Readied, OwnSpan, Opened, Spanned, with_notes, NotedSome};
@@ -41,6 +41,24 @@ fn add_span(spans: &mut Vec<Span>, place: u32, words: u32) -> Result<(), NoMemor
     Ok(())
 }
 
+/// Notes the two words of a segment from an even place on.
+fn note_two(pages: &Pages, notes: &mut Vec<Note>, k: u8, place: u32) -> Result<(), NoMemory>
+    requires segment { k < (table_of pages.now).segments }
+    requires span { place + 2 ≤ (table_of pages.now).reserved }
+    requires even { place % 2 ≡ 0 }
+    ensures ok { OnOk result (notes.new.items ≡ with_notes ((table_of pages.now).word k) place 2 notes.old.items) }
+    ensures err { OnErr result (NotedSome ((table_of pages.now).word k) place 2 notes.old.items notes.new.items) }
+{
+    pages.known();
+    let (first, second) = pages.two_words(k, place);
+    notes.push(Note { place, word: first })?;
+    notes.push(Note {
+        place: place + 1,
+        word: second,
+    })?;
+    Ok(())
+}
+
 /// Notes the words of a segment in a span.
 fn add_notes(
     pages: &Pages,
@@ -55,6 +73,9 @@ fn add_notes(
     ensures err { OnErr result (NotedSome ((table_of pages.now).word k) place n notes.old.items notes.new.items) }
 {
     pages.known();
+    if n == 2 && place % 2 == 0 {
+        return note_two(pages, notes, k, place);
+    }
     'words: for j in 0..n {
         let word = pages.word(k, place + j);
         notes.push(Note {

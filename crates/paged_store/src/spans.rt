@@ -1,11 +1,30 @@
 //! Words of spans and extents that are published, restored or written back, and extents that are given back.
-ghost use Rattle.std.specs.Prelude.{◌≡◌, ◌<◌};
+ghost use Rattle.std.specs.Prelude.{◌≡◌, ◌<◌, length};
 ghost use Rattle.page_table.specs.Lists.{table_of};
 ghost use Rattle.paged_store.specs.inner.Paged.{in_spans, in_extents, rewound};
-ghost use Rattle.paged_store.specs.inner.Ending.{SpansLie, ExtentsLie, HaveClasses, NotesLie, HaveRoom, pushes, restores, with_words, GivenBack};
+ghost use Rattle.paged_store.specs.inner.Ending.{SpansLie, ExtentsLie, HaveClasses, IsRun, NotesLie, HaveRoom, pushes, restores, with_words, GivenBack};
 
 use crate::extent::{Extent, Note, Span};
 use page_table::Pages;
+
+/// The extents from one of a list on that lie side by side, each where the one before it ends: where the list goes on
+/// behind them, and the words that they have.
+pub fn run_of(pages: &Pages, extents: &[Extent], from: usize) -> (usize, Span)
+    requires lie { ExtentsLie (table_of pages.now).reserved extents.now }
+    requires classes { HaveClasses extents.now }
+    requires from { from < length extents.now }
+    ensures { IsRun (table_of pages.now).reserved extents.now from result.0 result.1.place result.1.words }
+{
+    pages.known();
+    let place = extents[from].place;
+    let mut words = extents[from].words();
+    let mut to = from + 1;
+    'run: while to < extents.len() && extents[to].place == place + words {
+        words += extents[to].words();
+        to += 1;
+    }
+    (to, Span { place, words })
+}
 
 /// Copies a segment's words of spans into the shared words, and into every other segment's pages.
 pub fn push_spans(pages: &mut Pages, k: u8, spans: &[Span])
@@ -25,8 +44,11 @@ pub fn push_extents(pages: &mut Pages, k: u8, extents: &[Extent])
     requires classes { HaveClasses extents.now }
     ensures { table_of pages.new ≡ pushes k (in_extents extents.now) (table_of pages.old) }
 {
-    'extents: for extent in extents {
-        pages.push_words(k, extent.place, extent.words());
+    let mut done = 0;
+    'runs: while done < extents.len() {
+        let (to, run) = run_of(pages, extents, done);
+        pages.push_words(k, run.place, run.words);
+        done = to;
     }
 }
 
@@ -48,8 +70,11 @@ pub fn restore_extents(pages: &mut Pages, k: u8, extents: &[Extent])
     requires classes { HaveClasses extents.now }
     ensures { table_of pages.new ≡ restores k (in_extents extents.now) (table_of pages.old) }
 {
-    'extents: for extent in extents {
-        pages.restore_words(k, extent.place, extent.words());
+    let mut done = 0;
+    'runs: while done < extents.len() {
+        let (to, run) = run_of(pages, extents, done);
+        pages.restore_words(k, run.place, run.words);
+        done = to;
     }
 }
 

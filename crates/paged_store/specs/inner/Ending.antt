@@ -1,14 +1,14 @@
 -- What is done to a table and to the books of a store where a step is taken back, and where a transaction ends. What
 -- code
 -- and proofs say to each other: nothing public rests on it.
-use Rattle.std.specs.Prelude.{◌≡◌, ℕ, ◌+◌, ◌/◌, ◌<◌, ◌≤◌, Bool, true, false, cond, ◌||◌, List, length, get_or, drop, Option, None}
+use Rattle.std.specs.Prelude.{◌≡◌, ℕ, ◌+◌, ◌/◌, ◌<◌, ◌≤◌, Bool, true, false, cond, ◌||◌, List, length, get_or, take, drop, Option, None}
 use Rattle.py_data.specs.Sight.{mem}
 use Rattle.page_table.specs.Pages.{Table, Lies}
 use Rattle.seg_marks.specs.Marks.{Marked, marks_of, holders_of, SameSizes}
 use Rattle.paged_store.specs.declared.extent.Span.{Span}
 use Rattle.paged_store.specs.declared.extent.Extent.{Extent}
 use Rattle.paged_store.specs.declared.extent.Note.{Note}
-use Rattle.paged_store.specs.Words.{Words}
+use Rattle.paged_store.specs.Words.{Words, in_span}
 use Rattle.paged_store.specs.inner.Moves.{put, given}
 use Rattle.paged_store.specs.inner.Paged.{Drafted, in_extents, of_class, extents_at, rewound, spare_at, taken_since}
 
@@ -22,6 +22,14 @@ ExtentsLie end xs = (i : ℕ) (x : Extent) → i < length xs → Lies (get_or xs
 
 abbrev pub HaveClasses : List Extent → Type 0
 HaveClasses xs = (i : ℕ) (x : Extent) → i < length xs → (1 ≤ (get_or xs i x).class) × ((get_or xs i x).class ≤ 21)
+
+-- The extents of a list from one number up to another lie side by side: their places are those of so many words from a
+-- place on.
+pub record IsRun (end : ℕ) (xs : List Extent) (from to place words : ℕ) : Type 0 where
+  pub more : from < to
+  pub most : to ≤ length xs
+  pub within : place + words ≤ end
+  pub places : in_extents (take to xs) ≡ (λ p. in_extents (take from xs) p || in_span place words p)
 
 -- in pages of segment k's own
 abbrev pub NotesLie : ℕ → Table → List Note → Type 0

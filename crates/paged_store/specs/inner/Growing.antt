@@ -1,6 +1,6 @@
 -- A record that grows: its body, and a Dict's index, stand in larger extents. What code and proofs say to each other:
 -- nothing public rests on it.
-use Rattle.std.specs.Prelude.{◌≡◌, ℕ, ◌+◌, ◌*◌, ◌<◌, ◌≤◌, true, false, List, [], ◌++◌, length}
+use Rattle.std.specs.Prelude.{◌≡◌, ℕ, ◌+◌, ◌*◌, ◌%◌, ◌<◌, ◌≤◌, true, false, List, [], ◌++◌, length}
 use Rattle.page_table.specs.Pages.{Table}
 use Rattle.py_data.specs.declared.value.Value.{Value}
 use Rattle.paged_store.specs.declared.extent.Extent.{Extent}
@@ -46,6 +46,7 @@ pub record CanGrow (k a body index n : ℕ) (t : Table) : Type 0 where
   pub may_head : CanPut k (2 * a) 4 t
   pub may_body : CanPut k body (next_body_size (t.word k) a) t
   pub may_index : CanPut k index (next_index_size (t.word k) a) t
+  pub even : 0 < n → body % 2 ≡ 0
   pub apart : (p : ℕ) → in_span body (next_body_size (t.word k) a) p ≡ true → in_body (t.word k) a p ≡ false
 
 -- the record has grown, with these values at its end

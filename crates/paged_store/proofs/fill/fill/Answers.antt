@@ -2,7 +2,7 @@ use Rattle.std.proofs.Common.{◌≡◌, ◌+◌, ◌*◌, ◌/◌, ◌≤◌, l
 use Rattle.page_table.specs.Lists.{table_of}
 use Rattle.paged_store.specs.Words.{size_of}
 use Rattle.paged_store.specs.inner.Writing.{CanPut}
-use Rattle.paged_store.proofs.PutLemmas.{can_still, can_at}
+use Rattle.paged_store.proofs.PutLemmas.{can_still}
 use Rattle.paged_store.proofs.FillWrites.{can_twice, can_before, fill_puts, fill_is}
 use Rattle.paged_store.proofs.fill.fill.Goals as goal
 
@@ -21,31 +21,25 @@ clear_words-requires-clause-may c = subst (λ z. CanPut c.args.k c.args.index z 
     (table_of c.args.pages.now) (table_of c.put_values.new.pages) (table_of c.put_bytes.new.pages) c.put_values.ensures
     c.put_bytes.ensures c.requires.may_index)
 
-pub write_word-requires-clause-own : goal.write_word-requires-clause-own
-write_word-requires-clause-own c =
+pub put_header-requires-clause-may : goal.put_header-requires-clause-may
+put_header-requires-clause-may c =
     let two : CanPut c.args.k (2 * c.args.a) 4 (table_of c.put_bytes.new.pages) =
     can_twice c.args.k (2 * c.args.a) 4 _ _ (table_of c.args.pages.now) (table_of c.put_values.new.pages)
     (table_of c.put_bytes.new.pages) c.put_values.ensures c.put_bytes.ensures c.requires.may_head in
-    (can_at c.args.k (2 * c.args.a) 4 1 (table_of c.clear_words.new.pages) (omega arith)
-    (can_still c.args.k (2 * c.args.a) 4 _ (table_of c.put_bytes.new.pages) (table_of c.clear_words.new.pages)
-    c.clear_words.ensures two)).1
-
-pub put_head-requires-clause-may : goal.put_head-requires-clause-may
-put_head-requires-clause-may c =
-    let two : CanPut c.args.k (2 * c.args.a) 4 (table_of c.put_bytes.new.pages) =
-    can_twice c.args.k (2 * c.args.a) 4 _ _ (table_of c.args.pages.now) (table_of c.put_values.new.pages)
-    (table_of c.put_bytes.new.pages) c.put_values.ensures c.put_bytes.ensures c.requires.may_head in
-    can_twice c.args.k (2 * c.args.a) 4 _ _ (table_of c.put_bytes.new.pages) (table_of c.clear_words.new.pages)
-    (table_of c.write_word.new.self) c.clear_words.ensures c.write_word.ensures two
+    can_still c.args.k (2 * c.args.a) 4 _ (table_of c.put_bytes.new.pages) (table_of c.clear_words.new.pages)
+    c.clear_words.ensures two
 
 pub returns : goal.returns
 returns c = fill_is c.args.k c.args.a c.args.body c.args.index (table_of c.args.pages.now)
     (table_of c.put_values.new.pages) (table_of c.put_bytes.new.pages) (table_of c.clear_words.new.pages)
-    (table_of c.write_word.new.self) (table_of c.put_head.new.pages) c.word.result c.length_of.result c.size_of.result
+    (table_of c.put_header.new.pages) c.word.result c.length_of.result c.size_of.result
     c.as_slice.result.now c.as_slice-2.result.now _ _ _ _ _ c.word.ensures c.length_of.ensures c.size_of.ensures
     c.as_slice.ensures c.as_slice-2.ensures
     (fill_puts c.args.k c.args.a c.args.body c.args.index (table_of c.args.pages.now) (table_of c.put_values.new.pages)
-    (table_of c.put_bytes.new.pages) (table_of c.clear_words.new.pages) (table_of c.write_word.new.self)
-    (table_of c.put_head.new.pages) c.word.result c.length_of.result c.size_of.result c.as_slice.result.now
-    c.as_slice-2.result.now c.put_values.ensures c.put_bytes.ensures c.clear_words.ensures c.write_word.ensures
-    c.put_head.ensures)
+    (table_of c.put_bytes.new.pages) (table_of c.clear_words.new.pages) (table_of c.put_header.new.pages) c.word.result c.length_of.result c.size_of.result c.as_slice.result.now
+    c.as_slice-2.result.now c.put_values.ensures c.put_bytes.ensures c.clear_words.ensures c.put_header.ensures)
+
+pub put_values-requires-clause-even : goal.put_values-requires-clause-even
+put_values-requires-clause-even c some =
+    let n : length c.as_slice.result.now ≡ length c.args.r.now.values = ap (λ z. length z) c.as_slice.ensures in
+    c.requires.even (omega (arith, n, some))

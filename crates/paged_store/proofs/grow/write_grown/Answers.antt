@@ -78,3 +78,7 @@ returns c = grow_puts_all c.args.k c.args.a c.args.body c.args.index c.values_pl
     c.of.ensures.kind c.of.ensures.class c.of.ensures.index c.of.ensures.first c.word.ensures)
     (omega (arith, c.value_words-words.ensures, c.from.ensures)) c.copy_words.ensures c.clear_words.ensures
     c.put_head.ensures c.put_values.ensures c.write_word.ensures
+
+pub put_values-requires-clause-even : goal.put_values-requires-clause-even
+put_values-requires-clause-even c some =
+    (let e = c.requires.can.even some in omega (arith, e, c.value_words-words.ensures))

@@ -6,7 +6,7 @@ use Rattle.paged_store.specs.inner.Making.{body_class, index_class}
 use Rattle.paged_store.specs.inner.Paged.{Drafted, drafted}
 use Rattle.paged_store.specs.inner.Writing.{desk}
 use Rattle.paged_store.proofs.GrowTakes.{ends_at}
-use Rattle.paged_store.proofs.MakeTakes.{classes_few, head_can, body_can, index_can, takes_made, takes_besides, made_set, made_cut, made_length, made_pushed, words_made, places_by}
+use Rattle.paged_store.proofs.MakeTakes.{classes_few, head_can, body_even, body_can, index_can, takes_made, takes_besides, made_set, made_cut, made_length, made_pushed, words_made, places_by}
 use Rattle.paged_store.proofs.RiseLemmas.{rises_from, rises_kept}
 use Rattle.paged_store.proofs.make.make.Goals as goal
 
@@ -26,6 +26,13 @@ set-requires c =
 
 pub fill-requires-clause-class : goal.fill-requires-clause-class
 fill-requires-clause-class c = (let m = (classes_few c.args.r.now).1 in omega (arith, m, c.requires.index))
+
+pub fill-requires-clause-even : goal.fill-requires-clause-even
+fill-requires-clause-even c some = body_even c.args.k c.in-Ok.head c.in-Ok.body c.in-Ok.index c.args.r.now _
+    (desk c.take.new.pages c.take.new.draft)
+    (takes_made c.args.k c.in-Ok.head c.in-Ok.body c.in-Ok.index c.args.header.class c.args.header.index c.args.r.now _
+    (desk c.take.new.pages c.take.new.draft) c.requires.class c.requires.index c.in-Ok.ensures.ok)
+    (body_class c.args.r.now) refl (omega (arith, some, c.requires.fits.values))
 
 pub fill-requires-clause-may_head : goal.fill-requires-clause-may_head
 fill-requires-clause-may_head c = head_can c.args.k c.in-Ok.head c.in-Ok.body c.in-Ok.index c.args.r.now _

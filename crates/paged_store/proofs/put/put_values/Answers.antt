@@ -5,6 +5,10 @@ use Rattle.paged_store.specs.inner.Writing.{CanPut}
 use Rattle.paged_store.proofs.PutLemmas.{can_still, can_part, values_more}
 use Rattle.paged_store.proofs.put.put_values.Goals as goal
 
+pub put_value-requires-clause-even : goal.put_value-requires-clause-even
+put_value-requires-clause-even c = (let e = c.requires.even (omega (arith, c.values-test.true)) in
+    omega (arith, e, c.values.invariant.next))
+
 pub put_value-requires-clause-may : goal.put_value-requires-clause-may
 put_value-requires-clause-may c =
     let whole : CanPut c.args.k c.args.place (2 * length c.args.vs.now) (table_of c.values.pages) =

@@ -1,9 +1,14 @@
-use Rattle.std.proofs.Common.{◌≡◌, take}
+use Rattle.std.proofs.Common.{◌≡◌, ◌-◌, ◌≤◌, length, take}
 use Rattle.page_table.specs.Lists.{table_of}
 use Rattle.paged_store.specs.inner.Paged.{in_extents}
 use Rattle.paged_store.specs.inner.Ending.{restores}
 use Rattle.paged_store.proofs.spans.restore_extents.Given as goal
 
-abbrev pub invariant-extents : goal.invariant-extents
-invariant-extents l = table_of l.pages ≡ restores l.k (in_extents (take l.extent-index l.extents))
-    (table_of l.initial.pages)
+abbrev pub invariant-runs : goal.invariant-runs
+invariant-runs l = record {
+  within : l.done ≤ length l.extents;
+  words : table_of l.pages ≡ restores l.k (in_extents (take l.done l.extents)) (table_of l.initial.pages);
+}
+
+abbrev pub decreases-runs : goal.decreases-runs
+decreases-runs l = length l.extents - l.done

@@ -50,3 +50,8 @@ returns-clause-ok c = pair_added c.args.k c.args.d _ c.free_slot-slot.result _ _
     (desk c.args.pages.now c.args.draft.now) (desk c.ready_with_count.new.pages c.ready_with_count.new.draft)
     (desk c.ready.new.pages c.ready.new.draft) c.in_ok-ready_with_count.ensures.ok c.in_ok-ready.ensures.ok)
     c.put_values.ensures c.write_word.ensures c.write_word-2.ensures
+
+pub put_values-requires-clause-even : goal.put_values-requires-clause-even
+put_values-requires-clause-even c some =
+    (let e = c.requires.stands.formed.even (omega (arith, c.requires.room, some)) in
+    omega (arith, e, c.body_place.ensures))

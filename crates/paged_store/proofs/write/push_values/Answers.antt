@@ -15,3 +15,8 @@ returns-clause-ok c = push_wrote c.args.k c.args.a _ _ _ c.args.vs.now (desk c.a
     (table_of c.write_word.new.self) (omega (arith, c.body_place.ensures, c.word-count.ensures)) refl
     (omega (arith, c.from.ensures, c.word-count.ensures)) c.in_ok-ready_with_count.ensures.ok c.put_values.ensures
     c.write_word.ensures
+
+pub put_values-requires-clause-even : goal.put_values-requires-clause-even
+put_values-requires-clause-even c some =
+    (let e = c.requires.stands.formed.even (omega (arith, c.requires.room, some)) in
+    omega (arith, e, c.body_place.ensures))

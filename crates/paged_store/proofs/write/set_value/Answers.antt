@@ -1,4 +1,4 @@
-use Rattle.std.proofs.Common.{ℕ, ◌+◌, ◌*◌, subst}
+use Rattle.std.proofs.Common.{ℕ, ◌+◌, ◌*◌, subst, arith}
 use Rattle.page_table.specs.Lists.{table_of}
 use Rattle.paged_store.specs.Words.{in_span}
 use Rattle.paged_store.specs.inner.Written.{put_value}
@@ -16,3 +16,7 @@ returns-clause-ok c =
     subst P c.body_place.ensures (wrote_ready c.args.k (in_span place 2) (desk c.args.pages.now c.args.draft.now)
     (desk c.ready.new.pages c.ready.new.draft) (table_of c.put_value.new.pages) (λ w. put_value place c.args.v w)
     c.in_ok-ready.ensures.ok c.put_value.ensures (λ w p h. value_off place p c.args.v w h))
+
+pub put_value-requires-clause-even : goal.put_value-requires-clause-even
+put_value-requires-clause-even c =
+    (let e = c.requires.stands.formed.even (omega (arith, c.requires.within)) in omega (arith, e, c.body_place.ensures))
