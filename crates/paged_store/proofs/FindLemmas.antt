@@ -1,5 +1,5 @@
 -- A key is found in words as in a heap that has the records that they stand for.
-use Rattle.std.proofs.Common.{◌%◌, ◌≡◌, ◌≢◌, ℕ, suc, ◌+◌, ◌-◌, ◌*◌, ◌/◌, ◌<◌, ◌≤◌, true, false, cond, eqb, List, [], ◌∷◌, length, Some, None, refl, sym, ap, ◌∙◌, subst, arith}
+use Rattle.std.proofs.Common.{◌%◌, ◌≡◌, ◌≢◌, ℕ, suc, ◌+◌, ◌-◌, ◌*◌, ◌/◌, ◌<◌, ◌≤◌, true, false, cond, eqb, List, [], ◌∷◌, length, Option, Some, None, IfSome, refl, sym, ap, ◌∙◌, subst, arith}
 use Rattle.py_data.specs.declared.value.Value.{Value}
 use Rattle.py_data.specs.declared.value.Value.TheVariants.{Ref}
 use Rattle.py_base.specs.declared.kind.Kind.TheVariants.{Dict}
@@ -12,6 +12,7 @@ use Rattle.dict_index.specs.Seeking.{Passed, IsOver}
 use Rattle.dict_index.proofs.Right.{index_of}
 use Rattle.dict_index.proofs.Seeking.{in_pairs, one_passed, here, nowhere}
 use Rattle.page_table.specs.Pages.{Table}
+use Rattle.page_table.specs.Lists.{word_at, IsRun}
 use Rattle.paged_store.specs.declared.sight.Seen.{Seen}
 use Rattle.paged_store.specs.Words.{Words, value_of, decode, count_by, body_by, index_by, index_size}
 use Rattle.paged_store.specs.inner.Indexed.{class_by, index_words, home_by, pairs_by, IsIndexed}
@@ -56,6 +57,19 @@ key_there w reserved d b n r e h = (λ t. value_of (w (twice t)) (w (twice t + 1
   where
     twice : b + 4 * n ≡ b + 2 * (2 * n)
     twice = omega arith
+
+-- a pair whose key has two words in a list of those from the body on has the key that they stand for
+pub key_in_words : (w : Words) (reserved d b n x y : ℕ) (ws : List ℕ) (key : Value) (found : Option ℕ) →
+    Stands w reserved d → b ≡ body_by w d → n ≡ length (decode w d).values / 2 → IsRun w b (4 * n) ws →
+    value_of x y ≡ key →
+    IfSome found (λ i. (i < n) × (word_at ws (4 * i) ≡ x) × (word_at ws (4 * i + 1) ≡ y)) →
+    IfSome found (λ i. (i < length (decode w d).values / 2) × (value_at (decode w d).values (2 * i) ≡ key))
+key_in_words w reserved d b n x y ws key None r e c run is h = tt
+key_in_words w reserved d b n x y ws key (Some i) r e c run is h =
+    let here : i < length (decode w d).values / 2 = omega (arith, h.0, c) in
+    let first : w (b + 4 * i) ≡ x = sym (run.each (4 * i) (omega (arith, h.0))) ∙ h.1 in
+    let second : w (b + 4 * i + 1) ≡ y = ap w (omega arith) ∙ sym (run.each (4 * i + 1) (omega (arith, h.0))) ∙ h.2 in
+    (here, sym (key_there w reserved d b i r e here) ∙ (λ t. value_of (first t) (second t)) ∙ is)
 
 -- a dictionary has half as many pairs as its header counts values
 pub pairs_read : (w : Words) (d n : ℕ) → (decode w d).kind ≡ Dict → n ≡ count_by w d →

@@ -13,6 +13,7 @@ use Rattle.py_base.specs.declared.kind.Kind.TheVariants.{Str, Tuple, List as Lis
 use Rattle.py_data.specs.declared.value.Value.{Value}
 use Rattle.py_data.specs.declared.value.Value.TheVariants.{Unset}
 use Rattle.py_data.specs.Heap.{has_bytes, has_rooms, length_of, value_at}
+use Rattle.page_table.specs.Lists.{word_at, IsRun}
 use Rattle.paged_store.specs.Words.{Words, value_of, room_in, class_in, first_in, record_of, decode, kind_by, count_by, body_by, body_size}
 use Rattle.paged_store.specs.inner.Formed.{Formed}
 use Rattle.paged_store.specs.inner.Sight.{Stands}
@@ -119,6 +120,19 @@ value_found w reserved a b n i v r e f there none = elim (leb_tells (suc i) n) [
   | inl h ↦ there (omega (arith, h.1)) ∙ value_there w reserved a b i r (omega (arith, h.1, e)) f
   | inr h ↦ none (omega (arith, h.1)) ∙ sym (get_or_past (decode w a).values i Unset (omega (arith, h.1, e)))
 ]
+
+-- the value at a place, by its two words in a list of those from the body on
+pub value_in_run : (w : Words) (reserved a b n i : ℕ) (ws : List ℕ) (v : Value) → Stands w reserved a →
+    i < length (decode w a).values → b ≡ body_by w a → IsRun w b n ws → 2 * i + 1 < n →
+    v ≡ value_of (word_at ws (2 * i)) (word_at ws (2 * i + 1)) → v ≡ value_at (decode w a).values i
+value_in_run w reserved a b n i ws v r h e run within is =
+    is ∙ (λ t. value_of (first t) (second t)) ∙ value_there w reserved a b i r h e
+  where
+    first : word_at ws (2 * i) ≡ w (b + 2 * i)
+    first = run.each (2 * i) (omega arith)
+
+    second : word_at ws (2 * i + 1) ≡ w (b + 2 * i + 1)
+    second = run.each (2 * i + 1) within ∙ ap w (omega arith)
 
 -- ---- rooms
 

@@ -4,14 +4,14 @@ ghost use Rattle.py_base.specs.declared.kind.Kind.TheVariants.{Dict};
 ghost use Rattle.py_data.specs.declared.value.Value.TheVariants.{Ref};
 ghost use Rattle.py_data.specs.Heap.{Heap, value_at};
 ghost use Rattle.py_data.specs.Shape.{find, same_key, same_bytes, same_text, text_in, ArePairs, KeysDiffer};
-ghost use Rattle.page_table.specs.Lists.{table_of};
+ghost use Rattle.page_table.specs.Lists.{table_of, word_at};
 ghost use Rattle.paged_store.specs.Words.{body_by, index_by, index_size};
 ghost use Rattle.paged_store.specs.inner.Indexed.{IsIndexed};
 ghost use Rattle.paged_store.specs.inner.Sight.{words_seen, record_seen, IsSeen, CanRead, SameWords, OtherWords, IsText, IsKeySeen, KeysSeen, KnowsKeys, heap_seen};
 
 use crate::hash::home;
 use crate::index::slots_by;
-use crate::sight::{Seen, head_words, layout, two_words, value, word};
+use crate::sight::{Seen, head_words, layout, run, two_words, value, word};
 use crate::value::{known_value, payload, tag};
 use dict_index::slots::next;
 use page_table::Pages;
@@ -107,8 +107,22 @@ fn same(pages: &Pages, seen: Seen, x: Value, y: Value) -> bool
 /// The most pairs of a dictionary whose keys are looked through before one is hashed.
 const FEW: usize = 8;
 
+/// The number, from 0, of one of the pairs in a list of words whose key has these two.
+fn pair_in_words(words: &[u64], pairs: usize, first: u64, second: u64) -> Option<usize>
+    requires { length words.now ≡ 4 * pairs }
+    ensures { IfSome result (λ i. (i < pairs) × (word_at words.now (4 * i) ≡ first)
+        × (word_at words.now (4 * i + 1) ≡ second)) }
+{
+    'pairs: for i in 0..pairs {
+        if words[4 * i] == first && words[4 * i + 1] == second {
+            return Some(i);
+        }
+    }
+    None
+}
+
 /// The number, from 0, of a pair of a dictionary whose key is the record at an address, where the pairs are few and one
-/// is.
+/// is. Where their words lie in one page, that is found once.
 fn pair_of_record(
     pages: &Pages,
     seen: Seen,
@@ -120,6 +134,7 @@ fn pair_of_record(
     requires there { CanRead (table_of pages.now) seen d }
     requires body { body ≡ body_by (words_seen (table_of pages.now) seen) d }
     requires pairs { pairs ≡ length (record_seen (table_of pages.now) seen d).values / 2 }
+    requires some { 0 < pairs }
     ensures { let xs = (record_seen (table_of pages.now) seen d).values in
         IfSome result (λ i. (i < length xs / 2) × (value_at xs (2 * i) ≡ Ref a)) }
 {
@@ -130,6 +145,9 @@ fn pair_of_record(
     let key = Value::Ref(a);
     let (first, second) = (tag(key), payload(key));
     known_value(key);
+    if let Some(words) = run(pages, seen, body as u32, 4 * pairs as u32) {
+        return pair_in_words(words, pairs, first, second);
+    }
     'pairs: for i in 0..pairs {
         let (x, y) = two_words(pages, seen, (body + 4 * i) as u32);
         if x == first && y == second {
@@ -151,6 +169,7 @@ fn pair_by_record(
     requires there { CanRead (table_of pages.now) seen d }
     requires body { body ≡ body_by (words_seen (table_of pages.now) seen) d }
     requires pairs { pairs ≡ length (record_seen (table_of pages.now) seen d).values / 2 }
+    requires some { 0 < pairs }
     ensures { let xs = (record_seen (table_of pages.now) seen d).values in IfSome result (λ i. (i < length xs / 2)
         × (same_key (heap_seen (table_of pages.now) seen) (value_at xs (2 * i)) key ≡ true)) }
 {

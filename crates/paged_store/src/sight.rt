@@ -1,9 +1,9 @@
 //! Records as they are read in words: in those of the image, or in a segment's.
-ghost use Rattle.std.specs.Prelude.{◌≡◌, ℕ, ◌+◌, ◌-◌, ◌*◌, ◌%◌, ◌<◌, ◌≤◌, length, take, drop, slice_index};
+ghost use Rattle.std.specs.Prelude.{◌≡◌, ℕ, ◌+◌, ◌-◌, ◌*◌, ◌%◌, ◌<◌, ◌≤◌, length, take, drop, slice_index, IfSome};
 ghost use Rattle.py_data.specs.declared.value.Value.TheVariants.{Unset};
 ghost use Rattle.py_data.specs.Heap.{length_of, value_at};
 ghost use Rattle.py_data.specs.Looking.{head_of};
-ghost use Rattle.page_table.specs.Lists.{table_of};
+ghost use Rattle.page_table.specs.Lists.{table_of, IsRun};
 ghost use Rattle.paged_store.specs.Words.{value_of, kind_by, class_in, index_class_in, first_in, count_by, body_by, room_in};
 ghost use Rattle.paged_store.specs.inner.Sight.{words_seen, record_seen, IsSeen, CanRead};
 
@@ -41,6 +41,18 @@ pub(crate) fn two_words(pages: &Pages, seen: Seen, place: u32) -> (u64, u64)
     match seen {
         Seen::Image => (pages.shared_word(place), pages.shared_word(place + 1)),
         Seen::Segment(k) => pages.two_words(k, place),
+    }
+}
+
+/// The words from a place on, where they are a segment's and lie in one page.
+pub(crate) fn run(pages: &Pages, seen: Seen, place: u32, n: u32) -> Option<&[u64]>
+    requires segment { IsSeen (table_of pages.now) seen }
+    requires span { place + n ≤ (table_of pages.now).reserved }
+    ensures { IfSome result (λ s. IsRun (words_seen (table_of pages.now) seen) place n s.now) }
+{
+    match seen {
+        Seen::Image => None,
+        Seen::Segment(k) => pages.run(k, place, n),
     }
 }
 
@@ -174,18 +186,52 @@ pub fn find_val(pages: &Pages, seen: Seen, a: u32, i: usize) -> (Kind, Value)
     (kind, value_in(pages, seen, body, count, i))
 }
 
+/// The first three values of a body; Unset for each that it hasn't. Where it has them and they lie in one page, that is
+/// found once.
+fn three_values(
+    pages: &Pages,
+    seen: Seen,
+    a: u32,
+    body: usize,
+    count: usize,
+) -> (Value, Value, Value)
+    requires there { CanRead (table_of pages.now) seen a }
+    requires count { count ≡ length (record_seen (table_of pages.now) seen a).values }
+    requires body { body ≡ body_by (words_seen (table_of pages.now) seen) a }
+    ensures first { result.0 ≡ value_at (record_seen (table_of pages.now) seen a).values 0 }
+    ensures second { result.1 ≡ value_at (record_seen (table_of pages.now) seen a).values 1 }
+    ensures third { result.2 ≡ value_at (record_seen (table_of pages.now) seen a).values 2 }
+{
+    pages.known();
+    if count >= 3 {
+        if let Some(w) = run(pages, seen, body as u32, 6) {
+            return (
+                value_at(w[0], w[1]),
+                value_at(w[2], w[3]),
+                value_at(w[4], w[5]),
+            );
+        }
+    }
+    (
+        value_in(pages, seen, body, count, 0),
+        value_in(pages, seen, body, count, 1),
+        value_in(pages, seen, body, count, 2),
+    )
+}
+
 /// Its kind, the count of its values and the first three.
 pub fn head(pages: &Pages, seen: Seen, a: u32) -> Head
     requires { CanRead (table_of pages.now) seen a }
     ensures { result ≡ head_of (record_seen (table_of pages.now) seen a) }
 {
     let (kind, count, body) = outline(pages, seen, a);
+    let (first, second, third) = three_values(pages, seen, a, body, count);
     Head {
         kind,
         count,
-        first: value_in(pages, seen, body, count, 0),
-        second: value_in(pages, seen, body, count, 1),
-        third: value_in(pages, seen, body, count, 2),
+        first,
+        second,
+        third,
     }
 }
 

@@ -1,15 +1,46 @@
-use Rattle.std.proofs.Common.{◌≡◌, ◌<◌, ◌/◌, ◌*◌, ◌+◌, length, arith, sym, ◌∙◌}
+use Rattle.std.proofs.Common.{◌≡◌, ◌<◌, ◌≤◌, ◌/◌, ◌*◌, ◌+◌, ◌-◌, length, arith, sym, ◌∙◌}
 use Rattle.py_data.specs.declared.value.Value.TheVariants.{Ref}
 use Rattle.page_table.specs.Lists.{table_of}
 use Rattle.paged_store.specs.Words.{value_of}
 use Rattle.paged_store.specs.inner.Sight.{words_seen, record_seen}
-use Rattle.paged_store.proofs.FindLemmas.{key_there, key_within, key_even}
+use Rattle.paged_store.proofs.FindLemmas.{key_there, key_within, key_even, key_in_words}
+use Rattle.paged_store.proofs.ReadLemmas.{value_within}
 use Rattle.paged_store.proofs.ValueWords.{value_back}
 use Rattle.paged_store.proofs.find.pair_of_record.Goals as goal
 
 inside : (c : goal.In-pairs) →
     c.pairs.i < length (record_seen (table_of c.args.pages.now) c.args.seen c.args.d).values / 2
 inside c = omega (arith, c.pairs-test.true, c.requires.pairs)
+
+-- the words of all pairs stand within what is reserved
+within : (c : goal.After-known_value) → c.args.body + 4 * c.args.pairs ≤ (table_of c.args.pages.now).reserved
+within c = omega (
+  arith,
+  c.requires.body,
+  c.requires.some,
+  value_within _ _ c.args.d (2 * c.args.pairs - 1) c.requires.there.stands
+      (omega (arith, c.requires.pairs, c.requires.some)),
+)
+
+pub overflow_cast-body : goal.overflow_cast-body
+overflow_cast-body c = omega (arith, within c)
+
+pub overflow_cast-pairs : goal.overflow_cast-pairs
+overflow_cast-pairs c = omega (arith, within c)
+
+pub overflow_mul-pairs : goal.overflow_mul-pairs
+overflow_mul-pairs c = omega (arith, within c)
+
+pub run-requires-clause-span : goal.run-requires-clause-span
+run-requires-clause-span c = within c
+
+pub returns-in-Some : goal.returns-in-Some
+returns-in-Some c =
+    key_in_words _ _ c.args.d c.args.body c.args.pairs _ _ c.in-Some.words.now (Ref c.args.a) c.pair_in_words.result
+    c.requires.there.stands c.requires.body c.requires.pairs c.in-Some.ensures
+    ((λ i. value_of (c.tag-first.ensures i) (c.payload-second.ensures i)) ∙
+    value_back (Ref c.args.a) c.known_value.ensures)
+    c.pair_in_words.ensures
 
 pub pairs-init : goal.pairs-init
 pairs-init c = tt
@@ -20,8 +51,8 @@ overflow_add-body c = omega (
   key_within _ _ c.args.d c.args.body c.pairs.i c.requires.there.stands c.requires.body (inside c),
 )
 
-pub overflow_cast-body : goal.overflow_cast-body
-overflow_cast-body c = omega (
+pub overflow_cast-body-in-pairs : goal.overflow_cast-body-in-pairs
+overflow_cast-body-in-pairs c = omega (
   arith,
   key_within _ _ c.args.d c.args.body c.pairs.i c.requires.there.stands c.requires.body (inside c),
 )
