@@ -1,5 +1,5 @@
 -- What is read in a record's words.
-use Rattle.std.proofs.Common.{◌≡◌, ◌⊎◌, ℕ, zero, suc, ◌+◌, ◌-◌, ◌*◌, ◌/◌, ◌%◌, ◌^◌, ◌<◌, ◌≤◌, Bool, true, false, cond, List, ◌++◌, length, get_or, take, drop, refl, sym, ap, ◌∙◌, inl, inr, arith, w64, length-append, length-drop}
+use Rattle.std.proofs.Common.{◌≡◌, ◌⊎◌, ℕ, zero, suc, ◌+◌, ◌-◌, ◌*◌, ◌/◌, ◌%◌, ◌^◌, ◌<◌, ◌≤◌, Bool, true, false, cond, List, ◌++◌, length, get_or, take, drop, Option, Some, None, IfSome, Bor, refl, sym, ap, ◌∙◌, inl, inr, arith, w64, length-append, length-drop}
 use Rattle.std.specs.Int.{to_le_bytes}
 use Rattle.std.specs.List.{slice_range}
 use Rattle.std.proofs.Math.Seq.{take-add}
@@ -22,6 +22,13 @@ use Rattle.paged_store.proofs.RecordWords.{room_in_next, kind_is, room_is, first
 pub room_some : (c : ℕ) → 1 ≤ c → room_in c ≡ 2 ^ (c - 1)
 room_some zero h = absurd (omega arith)
 room_some (suc c) h = room_in_next c ∙ ap (λ z. 2 ^ z) (omega arith)
+
+-- a word of those from a place on, where they were found in one page
+pub run_word : (f : ℕ → ℕ) (place n j : ℕ) (words : Option (Bor (List ℕ))) →
+    IfSome words (λ s. IsRun f place n s.now) → j < n →
+    IfSome words (λ s. (j < length s.now) × (word_at s.now j ≡ f (place + j)))
+run_word f place n j None run h = tt
+run_word f place n j (Some s) run h = (omega (arith, run.count, h), run.each j h)
 
 -- ---- lengths
 

@@ -11,7 +11,7 @@ ghost use Rattle.paged_store.specs.inner.Sight.{words_seen, record_seen, IsSeen,
 
 use crate::hash::home;
 use crate::index::slots_by;
-use crate::sight::{Seen, head_words, layout, run, two_words, value, word};
+use crate::sight::{Seen, head_words, layout, run, two_words, value, word, word_in};
 use crate::value::{known_value, payload, tag};
 use dict_index::slots::next;
 use page_table::Pages;
@@ -26,8 +26,10 @@ fn same_words(pages: &Pages, seen: Seen, x: usize, y: usize, n: usize) -> bool
         MatchBool result (SameWords w x y n) (OtherWords w x y n) }
 {
     pages.known();
+    let first = run(pages, seen, x, n);
+    let second = run(pages, seen, y, n);
     'words: for j in 0..n {
-        if word(pages, seen, (x + j) as u32) != word(pages, seen, (y + j) as u32) {
+        if word_in(pages, seen, first, x, j) != word_in(pages, seen, second, y, j) {
             return false;
         }
     }
@@ -134,7 +136,6 @@ fn pair_of_record(
     requires there { CanRead (table_of pages.now) seen d }
     requires body { body ≡ body_by (words_seen (table_of pages.now) seen) d }
     requires pairs { pairs ≡ length (record_seen (table_of pages.now) seen d).values / 2 }
-    requires some { 0 < pairs }
     ensures { let xs = (record_seen (table_of pages.now) seen d).values in
         IfSome result (λ i. (i < length xs / 2) × (value_at xs (2 * i) ≡ Ref a)) }
 {
@@ -145,7 +146,7 @@ fn pair_of_record(
     let key = Value::Ref(a);
     let (first, second) = (tag(key), payload(key));
     known_value(key);
-    if let Some(words) = run(pages, seen, body as u32, 4 * pairs as u32) {
+    if let Some(words) = run(pages, seen, body, 4 * pairs) {
         return pair_in_words(words, pairs, first, second);
     }
     'pairs: for i in 0..pairs {
@@ -169,7 +170,6 @@ fn pair_by_record(
     requires there { CanRead (table_of pages.now) seen d }
     requires body { body ≡ body_by (words_seen (table_of pages.now) seen) d }
     requires pairs { pairs ≡ length (record_seen (table_of pages.now) seen d).values / 2 }
-    requires some { 0 < pairs }
     ensures { let xs = (record_seen (table_of pages.now) seen d).values in IfSome result (λ i. (i < length xs / 2)
         × (same_key (heap_seen (table_of pages.now) seen) (value_at xs (2 * i)) key ≡ true)) }
 {

@@ -1,13 +1,13 @@
 //! Hashes of keys, and their homes in an index.
-ghost use Rattle.std.specs.Prelude.{◌≡◌, ◌*◌, ◌^◌, ◌<◌, ◌≤◌, Some};
+ghost use Rattle.std.specs.Prelude.{◌≡◌, ◌+◌, ◌*◌, ◌/◌, ◌^◌, ◌<◌, ◌≤◌, Some, IfSome};
 ghost use Rattle.py_data.specs.Shape.{text_in};
-ghost use Rattle.page_table.specs.Lists.{table_of};
+ghost use Rattle.page_table.specs.Lists.{table_of, IsRun};
 ghost use Rattle.dict_index.specs.Packed.{packed};
 ghost use Rattle.dict_index.specs.Keys.{text_or_name, hash_text, hash_of, home_of};
 ghost use Rattle.paged_store.specs.inner.Sight.{words_seen, record_seen, CanRead, IsText, IsKeySeen};
 ghost use Rattle.paged_store.specs.inner.Indexed.{class_by};
 
-use crate::sight::{Seen, layout, word};
+use crate::sight::{Seen, layout, run, word_in};
 use dict_index::hash::{BUILT, NAMED, hash_int, hash_length, mix};
 use dict_index::slots::home_from;
 use page_table::Pages;
@@ -15,13 +15,22 @@ use py_data::{Kind, Value};
 
 /// The word of that number, from 0, of a string of `n` bytes that begins at `x`. What stands behind its bytes is left
 /// out.
-fn text_word(pages: &Pages, seen: Seen, a: u32, x: usize, n: usize, j: usize) -> u64
+fn text_word(
+    pages: &Pages,
+    seen: Seen,
+    a: u32,
+    x: usize,
+    n: usize,
+    words: Option<&[u64]>,
+    j: usize,
+) -> u64
     requires text { IsText (table_of pages.now) seen a x n }
     requires within { 8 * j < n }
+    requires words { IfSome words (λ s. IsRun (words_seen (table_of pages.now) seen) x ((n + 7) / 8) s.now) }
     ensures { result ≡ packed (record_seen (table_of pages.now) seen a).bytes j }
 {
     pages.known();
-    let word = word(pages, seen, (x + j) as u32);
+    let word = word_in(pages, seen, words, x, j);
     let left = n - 8 * j;
     if left < 8 {
         word % (1u64 << (8 * left))
@@ -37,8 +46,10 @@ fn text_hash(pages: &Pages, seen: Seen, a: u32, x: usize, n: usize) -> u64
 {
     pages.known();
     let mut hash = hash_length(n);
-    'words: for j in 0..(n + 7) / 8 {
-        hash = mix(hash, text_word(pages, seen, a, x, n, j));
+    let count = (n + 7) / 8;
+    let words = run(pages, seen, x, count);
+    'words: for j in 0..count {
+        hash = mix(hash, text_word(pages, seen, a, x, n, words, j));
     }
     hash
 }

@@ -3,7 +3,7 @@ ghost use Rattle.std.specs.Prelude.{◌≡◌, ℕ, ◌+◌, ◌-◌, ◌*◌, �
 ghost use Rattle.py_data.specs.declared.value.Value.TheVariants.{Unset};
 ghost use Rattle.py_data.specs.Heap.{length_of, value_at};
 ghost use Rattle.py_data.specs.Looking.{head_of};
-ghost use Rattle.page_table.specs.Lists.{table_of, IsRun};
+ghost use Rattle.page_table.specs.Lists.{table_of, word_at, IsRun};
 ghost use Rattle.paged_store.specs.Words.{value_of, kind_by, class_in, index_class_in, first_in, count_by, body_by, room_in};
 ghost use Rattle.paged_store.specs.inner.Sight.{words_seen, record_seen, IsSeen, CanRead};
 
@@ -44,15 +44,38 @@ pub(crate) fn two_words(pages: &Pages, seen: Seen, place: u32) -> (u64, u64)
     }
 }
 
-/// The words from a place on, where they are a segment's and lie in one page.
-pub(crate) fn run(pages: &Pages, seen: Seen, place: u32, n: u32) -> Option<&[u64]>
+/// The words from a place on, where they are several of a segment's and lie in one page.
+pub(crate) fn run(pages: &Pages, seen: Seen, place: usize, n: usize) -> Option<&[u64]>
     requires segment { IsSeen (table_of pages.now) seen }
-    requires span { place + n ≤ (table_of pages.now).reserved }
+    requires span { 0 < n → place + n ≤ (table_of pages.now).reserved }
     ensures { IfSome result (λ s. IsRun (words_seen (table_of pages.now) seen) place n s.now) }
 {
+    pages.known();
     match seen {
-        Seen::Image => None,
-        Seen::Segment(k) => pages.run(k, place, n),
+        Seen::Segment(k) if n > 1 => pages.run(k, place as u32, n as u32),
+        _ => None,
+    }
+}
+
+/// A word behind a place, out of the words from there on where they lie in one page.
+#[tactic(auto, unfolding(page_table::specs::Lists::word_at))]
+pub(crate) fn word_in(
+    pages: &Pages,
+    seen: Seen,
+    words: Option<&[u64]>,
+    place: usize,
+    j: usize,
+) -> u64
+    requires segment { IsSeen (table_of pages.now) seen }
+    requires place { place + j < (table_of pages.now).reserved }
+    requires words { IfSome words (λ s. (j < length s.now)
+        × (word_at s.now j ≡ words_seen (table_of pages.now) seen (place + j))) }
+    ensures { result ≡ words_seen (table_of pages.now) seen (place + j) }
+{
+    pages.known();
+    match words {
+        Some(words) => words[j],
+        None => word(pages, seen, (place + j) as u32),
     }
 }
 
@@ -204,7 +227,7 @@ fn three_values(
 {
     pages.known();
     if count >= 3 {
-        if let Some(w) = run(pages, seen, body as u32, 6) {
+        if let Some(w) = run(pages, seen, body, 6) {
             return (
                 value_at(w[0], w[1]),
                 value_at(w[2], w[3]),

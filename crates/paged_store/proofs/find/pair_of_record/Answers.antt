@@ -1,4 +1,4 @@
-use Rattle.std.proofs.Common.{◌≡◌, ◌<◌, ◌≤◌, ◌/◌, ◌*◌, ◌+◌, ◌-◌, length, arith, sym, ◌∙◌}
+use Rattle.std.proofs.Common.{◌≡◌, ◌<◌, ◌/◌, ◌*◌, ◌+◌, ◌-◌, length, arith, sym, ◌∙◌}
 use Rattle.py_data.specs.declared.value.Value.TheVariants.{Ref}
 use Rattle.page_table.specs.Lists.{table_of}
 use Rattle.paged_store.specs.Words.{value_of}
@@ -12,27 +12,13 @@ inside : (c : goal.In-pairs) →
     c.pairs.i < length (record_seen (table_of c.args.pages.now) c.args.seen c.args.d).values / 2
 inside c = omega (arith, c.pairs-test.true, c.requires.pairs)
 
--- the words of all pairs stand within what is reserved
-within : (c : goal.After-known_value) → c.args.body + 4 * c.args.pairs ≤ (table_of c.args.pages.now).reserved
-within c = omega (
+pub run-requires-clause-span : goal.run-requires-clause-span
+run-requires-clause-span c = λ h. omega (
   arith,
   c.requires.body,
-  c.requires.some,
-  value_within _ _ c.args.d (2 * c.args.pairs - 1) c.requires.there.stands
-      (omega (arith, c.requires.pairs, c.requires.some)),
+  h,
+  value_within _ _ c.args.d (2 * c.args.pairs - 1) c.requires.there.stands (omega (arith, c.requires.pairs, h)),
 )
-
-pub overflow_cast-body : goal.overflow_cast-body
-overflow_cast-body c = omega (arith, within c)
-
-pub overflow_cast-pairs : goal.overflow_cast-pairs
-overflow_cast-pairs c = omega (arith, within c)
-
-pub overflow_mul-pairs : goal.overflow_mul-pairs
-overflow_mul-pairs c = omega (arith, within c)
-
-pub run-requires-clause-span : goal.run-requires-clause-span
-run-requires-clause-span c = within c
 
 pub returns-in-Some : goal.returns-in-Some
 returns-in-Some c =
@@ -51,8 +37,8 @@ overflow_add-body c = omega (
   key_within _ _ c.args.d c.args.body c.pairs.i c.requires.there.stands c.requires.body (inside c),
 )
 
-pub overflow_cast-body-in-pairs : goal.overflow_cast-body-in-pairs
-overflow_cast-body-in-pairs c = omega (
+pub overflow_cast-body : goal.overflow_cast-body
+overflow_cast-body c = omega (
   arith,
   key_within _ _ c.args.d c.args.body c.pairs.i c.requires.there.stands c.requires.body (inside c),
 )

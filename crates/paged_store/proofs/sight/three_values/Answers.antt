@@ -11,11 +11,8 @@ within c = omega (
       (omega (arith, c.if-count-ge3.true)),
 )
 
-pub overflow_cast-body : goal.overflow_cast-body
-overflow_cast-body c = omega (arith, within c)
-
 pub run-requires-clause-span : goal.run-requires-clause-span
-run-requires-clause-span c = within c
+run-requires-clause-span c = λ h. within c
 
 pub returns-in-Some-clause-first : goal.returns-in-Some-clause-first
 unfolding word_at
