@@ -3,10 +3,11 @@ use Rattle.std.proofs.Common.{◌≡◌, ℕ, ◌+◌, ◌-◌, ◌*◌, ◌/◌
 use Rattle.std.proofs.lemmas.List.{get_or-set_same, get_or-set_other, get_or_default, get_or_past}
 use Rattle.std.proofs.lemmas.Bool.Decides.{eqb_tells, leb_tells}
 use Rattle.std.proofs.lemmas.Option.{get_or_from_slice_get, unwrap_or-slice_get}
+use Rattle.std.proofs.lemmas.List.Edits.{length-between}
 use Rattle.std.specs.List.{slice_range, slice_get}
 use Rattle.std.specs.Option.{unwrap_or}
 use Rattle.page_table.specs.Pages.{put, over}
-use Rattle.page_table.specs.Lists.{Sheet, word_at, word_in, sheet_in, word_over, has_page}
+use Rattle.page_table.specs.Lists.{Sheet, word_at, word_in, sheet_in, word_over, has_page, IsRun}
 use Rattle.page_table.proofs.Spans.{put_here, put_elsewhere, same_at_all, in_or_out, over_in, over_out, over_same, over_then, word_at-slice_range}
 
 pub sheet_in-set : (pages : List (Option (List ℕ))) (q : ℕ) (page : Option (List ℕ)) → q < length pages
@@ -209,6 +210,24 @@ words_of_part sheet place n below page within is i small =
     ∙ ap (word_at page) (omega (arith, small, within))
     ∙ sym (word_of_page sheet below (place + i) (Some page)
     (ap sheet (let e : (place + i) / 512 ≡ place / 512 = omega (arith, small, within) in e) ∙ is))
+
+-- as a list of its own, or of the words below where there is no such page
+pub run_of_page : (sheet : Sheet) (place n : ℕ) (below : ℕ → ℕ) (page ws : List ℕ) → place % 512 + n ≤ 512
+    → sheet (place / 512) ≡ Some page → ws ≡ slice_range page (place % 512) (place % 512 + n) → length ws ≡ n
+    → IsRun (word_over sheet below) place n ws
+run_of_page sheet place n below page ws within is e len = record {
+  count = len;
+  each = λ i h. ap (λ z. word_at z i) e ∙ words_of_part sheet place n below page within is i h;
+}
+
+pub run_below : (sheet : Sheet) (place n : ℕ) (shared : List ℕ) → place % 512 + n ≤ 512
+    → place + n ≤ length shared → sheet (place / 512) ≡ None
+    → IsRun (word_over sheet (word_at shared)) place n (slice_range shared place (place + n))
+run_below sheet place n shared within inside lacks = record {
+  count = length-between shared place (place + n) inside ∙ omega arith;
+  each = λ i h. word_at-slice_range shared place (place + n) i (omega (arith, h))
+      ∙ sym (words_below sheet place n (word_at shared) within lacks (place + i) (omega arith) (omega (arith, h)));
+}
 
 pub found_page : (pages : List (Option (List ℕ))) (q : ℕ) (o : Option (List ℕ)) → slice_get pages q ≡ Some o
     → sheet_in pages q ≡ o

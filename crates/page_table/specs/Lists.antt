@@ -1,5 +1,5 @@
 -- Pages as they lie in memory, and the table that they mean. States `docs/HEAP.md`, "Pages".
-use Rattle.std.specs.Prelude.{ℕ, ◌/◌, ◌%◌, Bool, List, [], length, get_or, Option, Some, None, is_some}
+use Rattle.std.specs.Prelude.{◌≡◌, ℕ, ◌+◌, ◌<◌, ◌/◌, ◌%◌, Bool, List, [], length, get_or, Option, Some, None, is_some}
 use Rattle.page_table.specs.Pages.{Table, Shelf, no_shelf}
 
 -- the pages of a segment's own: by number, the words of a page, or none
@@ -33,6 +33,11 @@ word_in (Some ws) i below = word_at ws i
 -- the word at a place over the words below
 unfoldable pub word_over : Sheet → (ℕ → ℕ) → ℕ → ℕ
 word_over sheet below p = word_in (sheet (p / 512)) (p % 512) (below p)
+
+-- a list has the n words from a place on
+pub record IsRun (f : ℕ → ℕ) (place n : ℕ) (ws : List ℕ) : Type 0 where
+  pub count : length ws ≡ n
+  pub each : (i : ℕ) → i < n → word_at ws i ≡ f (place + i)
 
 unfoldable pub has_page : Sheet → ℕ → Bool
 has_page sheet q = is_some (sheet q)

@@ -1,10 +1,10 @@
 //! Pages of words that segments share, and their extents.
-ghost use Rattle.std.specs.Prelude.{◌≡◌, ℕ, ◌+◌, ◌-◌, ◌*◌, ◌/◌, ◌%◌, ◌<◌, ◌≤◌, ◌^◌, true, [], length, IfOk, OnOk, OnErr};
+ghost use Rattle.std.specs.Prelude.{◌≡◌, ℕ, ◌+◌, ◌-◌, ◌*◌, ◌/◌, ◌%◌, ◌<◌, ◌≤◌, ◌^◌, true, [], length, IfSome, IfNone, IfOk, OnOk, OnErr};
 ghost use Rattle.std.specs.Prelude.{vec_capacity};
 ghost use Rattle.page_table.specs.Pages.{Lies, IsTable, limit, new_table, over, after_open, after_write, after_push, after_restore};
 ghost use Rattle.page_table.specs.Reserving.{Reserves, after_give_back};
 ghost use Rattle.page_table.specs.Counting.{in_use};
-ghost use Rattle.page_table.specs.Lists.{table_of, word_at, sheet_at, word_over};
+ghost use Rattle.page_table.specs.Lists.{table_of, word_at, sheet_at, word_over, IsRun};
 ghost use Rattle.page_table.specs.inner.Spreading.{HasWords, Restored, Spread};
 
 use crate::sheet::Sheet;
@@ -175,6 +175,20 @@ impl Pages {
         ensures third { result.2 ≡ (table_of self.now).word k (place + 2) }
     {
         self.sheets[k as usize].three_words(&self.shared, place as usize)
+    }
+
+    /// The words of a segment from a place on, where they lie in one page, which is found once.
+    pub fn run(&self, k: u8, place: u32, n: u32) -> Option<&[u64]>
+        requires segment { k < (table_of self.now).segments }
+        requires span { place + n ≤ (table_of self.now).reserved }
+        ensures words { IfSome result (λ s. IsRun ((table_of self.now).word k) place n s.now) }
+        ensures border { IfNone result (512 < place % 512 + n) }
+    {
+        let (from, size) = (place as usize, n as usize);
+        if from % 512 + size > 512 {
+            return None;
+        }
+        Some(self.sheets[k as usize].run(&self.shared, from, size))
     }
 
     /// Whether a segment has a page of its own.

@@ -1,7 +1,7 @@
 //! The pages of one segment's own.
 ghost use Rattle.std.specs.Prelude.{◌≡◌, ℕ, ◌+◌, ◌-◌, ◌/◌, ◌%◌, ◌<◌, ◌≤◌, true, Some, None, [], length, min, option_copied, slice_get, is_ok, if◌then◌else◌, OnOk};
 ghost use Rattle.page_table.specs.Pages.{put, over};
-ghost use Rattle.page_table.specs.Lists.{word_at, sheet_in, word_over, has_page};
+ghost use Rattle.page_table.specs.Lists.{word_at, sheet_in, word_over, has_page, IsRun};
 
 use crate::page::{Page, copy_to};
 use py_data::NoMemory;
@@ -116,6 +116,18 @@ impl Sheet {
         match self.page(place / 512) {
             Some(page) => (page.get(i), page.get(i + 1), page.get(i + 2)),
             None => (shared[place], shared[place + 1], shared[place + 2]),
+        }
+    }
+
+    /// The words from a place on, which lie in one page, over the shared words.
+    pub fn run<'a>(&'a self, shared: &'a [u64], place: usize, n: usize) -> &'a [u64]
+        requires within { place + n ≤ length shared.now }
+        requires page { place % 512 + n ≤ 512 }
+        ensures { IsRun (word_over (sheet_in self.now) (word_at shared.now)) place n result.now }
+    {
+        match self.page(place / 512) {
+            Some(page) => page.words(place % 512, n),
+            None => &shared[place..place + n],
         }
     }
 

@@ -86,6 +86,16 @@ fn three(rt: &impl Abort, pages: &Pages, k: u8, place: u32) -> (u64, u64, u64) {
     pages.three_words(k, place)
 }
 
+/// How many words a segment has from a place on, the first and the last, where they lie in one page; else None.
+fn run(rt: &impl Abort, pages: &Pages, k: u8, place: u32, n: u32) -> Option<(usize, u64, u64)> {
+    assert!(rt; k < pages.segments());
+    assert!(rt; u64::from(place) + u64::from(n) <= pages.reserved());
+    match pages.run(k, place, n) {
+        Some([first, .., last]) => Some((n as usize, *first, *last)),
+        _ => None,
+    }
+}
+
 /// What a call for an extent is refused with, as reserved, need and limit.
 fn refused(rt: &impl Abort, pages: &mut Pages, class: u8) -> (u64, u64, u64) {
     assert!(rt; 1 <= class && class <= 21);
@@ -248,5 +258,20 @@ fn words_are_read_across_pages(rt: HostRuntime) -> Result<(), Fail> {
     push(&rt, &mut pages, 0, 512, 1);
     assert_eq!(rt; three(&rt, &pages, 1, 510), (3, 4, 5));
     assert_eq!(rt; two(&rt, &pages, 1, 512), (5, 0));
+    Ok(())
+}
+
+#[test]
+fn runs_lie_in_one_page(rt: HostRuntime) -> Result<(), Fail> {
+    let mut pages = Pages::new(rt.alloc(), 2, 2)?;
+    assert_eq!(rt; reserve(&rt, &mut pages, 9)?, 2);
+    set(&rt, &mut pages, 1, 506, 3)?;
+    set(&rt, &mut pages, 1, 511, 4)?;
+    assert_eq!(rt; run(&rt, &pages, 1, 506, 6), Some((6, 3, 4)));
+    assert_eq!(rt; run(&rt, &pages, 0, 506, 6), Some((6, 0, 0)));
+    assert_eq!(rt; run(&rt, &pages, 1, 506, 7), None);
+    assert_eq!(rt; run(&rt, &pages, 0, 511, 2), None);
+    push(&rt, &mut pages, 1, 511, 1);
+    assert_eq!(rt; run(&rt, &pages, 0, 506, 6), Some((6, 0, 4)));
     Ok(())
 }

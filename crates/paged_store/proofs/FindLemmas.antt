@@ -1,9 +1,9 @@
 -- A key is found in words as in a heap that has the records that they stand for.
-use Rattle.std.proofs.Common.{◌%◌, ◌≡◌, ◌≢◌, ℕ, suc, ◌+◌, ◌-◌, ◌*◌, ◌/◌, ◌<◌, ◌≤◌, true, false, cond, eqb, List, [], ◌∷◌, length, Some, None, refl, sym, ap, ◌∙◌, subst, arith}
+use Rattle.std.proofs.Common.{◌%◌, ◌≡◌, ◌≢◌, ℕ, suc, ◌+◌, ◌-◌, ◌*◌, ◌/◌, ◌<◌, ◌≤◌, true, false, cond, eqb, List, [], ◌∷◌, length, Option, Some, None, IfSome, refl, sym, ap, ◌∙◌, subst, arith}
 use Rattle.py_data.specs.declared.value.Value.{Value}
 use Rattle.py_data.specs.declared.value.Value.TheVariants.{Ref}
 use Rattle.py_base.specs.declared.kind.Kind.TheVariants.{Dict}
-use Rattle.py_data.specs.Heap.{Rec, Heap, value_at, length_by, length_of}
+use Rattle.py_data.specs.Heap.{Heap, has_bytes, value_at}
 use Rattle.py_data.specs.Shape.{same_key, same_text, text_in, find, find_from, ArePairs, KeysDiffer}
 use Rattle.dict_index.specs.Keys.{home_of}
 use Rattle.dict_index.specs.Slots.{slot}
@@ -12,10 +12,12 @@ use Rattle.dict_index.specs.Seeking.{Passed, IsOver}
 use Rattle.dict_index.proofs.Right.{index_of}
 use Rattle.dict_index.proofs.Seeking.{in_pairs, one_passed, here, nowhere}
 use Rattle.page_table.specs.Pages.{Table}
+use Rattle.page_table.specs.Lists.{word_at, IsRun}
 use Rattle.paged_store.specs.declared.sight.Seen.{Seen}
-use Rattle.paged_store.specs.Words.{Words, value_of, decode, body_by, index_by, index_size}
+use Rattle.paged_store.specs.Words.{Words, value_of, decode, count_by, body_by, index_by, index_size}
 use Rattle.paged_store.specs.inner.Indexed.{class_by, index_words, home_by, pairs_by, IsIndexed}
 use Rattle.paged_store.specs.inner.Sight.{Stands, records_in, IsKeySeen, KeysSeen, IsKnown, KnowsKeys}
+use Rattle.paged_store.proofs.RecordWords.{kind_is, values_length}
 use Rattle.paged_store.proofs.ReadLemmas.{value_within, value_even, value_there}
 
 -- ---- another heap
@@ -39,6 +41,12 @@ pub find_known : (h : Heap) (w : Words) (vs : List Value) (key : Value) → Know
     find (records_in w) vs key ≡ find h vs key
 find_known h w vs key k = find_from_known h w 0 vs key k.sought k.each
 
+-- without pairs no key is found
+pub no_pairs : (h : Heap) (vs : List Value) (key : Value) → length vs / 2 ≡ 0 → None ≡ find h vs key
+no_pairs h [] key e = refl
+no_pairs h (k ∷ []) key e = refl
+no_pairs h (k ∷ v ∷ rest) key e = absurd (omega (arith, e))
+
 -- ---- the search
 
 pub key_there : (w : Words) (reserved d b n : ℕ) → Stands w reserved d → b ≡ body_by w d →
@@ -50,9 +58,23 @@ key_there w reserved d b n r e h = (λ t. value_of (w (twice t)) (w (twice t + 1
     twice : b + 4 * n ≡ b + 2 * (2 * n)
     twice = omega arith
 
--- a pair of a dictionary, of which there are half as many as values
-pub pair_in : (r : Rec) (n i : ℕ) → r.kind ≡ Dict → n ≡ length_of r → i < n / 2 → i < length r.values / 2
-pair_in r n i k e l = subst (λ m. i < m / 2) (e ∙ ap (λ z. length_by z r.values r.bytes) k) l
+-- a pair whose key has two words in a list of those from the body on has the key that they stand for
+pub key_in_words : (w : Words) (reserved d b n x y : ℕ) (ws : List ℕ) (key : Value) (found : Option ℕ) →
+    Stands w reserved d → b ≡ body_by w d → n ≡ length (decode w d).values / 2 → IsRun w b (4 * n) ws →
+    value_of x y ≡ key →
+    IfSome found (λ i. (i < n) × (word_at ws (4 * i) ≡ x) × (word_at ws (4 * i + 1) ≡ y)) →
+    IfSome found (λ i. (i < length (decode w d).values / 2) × (value_at (decode w d).values (2 * i) ≡ key))
+key_in_words w reserved d b n x y ws key None r e c run is h = tt
+key_in_words w reserved d b n x y ws key (Some i) r e c run is h =
+    let here : i < length (decode w d).values / 2 = omega (arith, h.0, c) in
+    let first : w (b + 4 * i) ≡ x = sym (run.each (4 * i) (omega (arith, h.0))) ∙ h.1 in
+    let second : w (b + 4 * i + 1) ≡ y = ap w (omega arith) ∙ sym (run.each (4 * i + 1) (omega (arith, h.0))) ∙ h.2 in
+    (here, sym (key_there w reserved d b i r e here) ∙ (λ t. value_of (first t) (second t)) ∙ is)
+
+-- a dictionary has half as many pairs as its header counts values
+pub pairs_read : (w : Words) (d n : ℕ) → (decode w d).kind ≡ Dict → n ≡ count_by w d →
+    n / 2 ≡ length (decode w d).values / 2
+pairs_read w d n k e = ap (λ z. z / 2) (e ∙ sym (values_length w d (ap has_bytes (sym (kind_is w d) ∙ k))))
 
 -- a key is among those of a dictionary
 pub key_seen : (t : Table) (seen : Seen) (values : List Value) (n : ℕ) (x : Value) → KeysSeen t seen values →
@@ -88,7 +110,16 @@ module _ (w : Words) (d n : ℕ) (key : Value) (x : IsIndexed w d) (g : n ≡ in
       subst (λ z. z - 1 < pairs_by w d) (sym i) (in_pairs (home_by w d) n (index_words w d) (pairs_by w d) at index_is l
       (λ z. f (i ∙ z)))
 
-  -- whose key is compared
+  -- whose key is read
+  pub pair_read : (reserved b place at word : ℕ) (y : Value) → Stands w reserved d → b ≡ body_by w d →
+      place ≡ index_by w d → at < n → word ≡ w (place + at) → word ≢ 0 →
+      y ≡ value_of (w (b + 4 * (word - 1))) (w (b + 4 * (word - 1) + 1)) →
+      (word - 1 < length (decode w d).values / 2) × (y ≡ value_at (decode w d).values (2 * (word - 1)))
+  pair_read reserved b place at word y r f e l h o is =
+      let there : word - 1 < length (decode w d).values / 2 = pair_there place at word e l h o in
+      (there, is ∙ key_there w reserved d b (word - 1) r f there)
+
+  -- and compared
   pub pair_compared : (place at word start j : ℕ) (y : Value) → place ≡ index_by w d → at ≡ slot n start j →
       word ≡ w (place + at) → y ≡ value_at (decode w d).values (2 * (word - 1)) → word ≢ 0 →
       same_key (records_in w) y key ≡ false →

@@ -1,5 +1,5 @@
 -- What is read in a record's words.
-use Rattle.std.proofs.Common.{◌≡◌, ◌⊎◌, ℕ, zero, suc, ◌+◌, ◌-◌, ◌*◌, ◌/◌, ◌%◌, ◌^◌, ◌<◌, ◌≤◌, Bool, true, false, cond, List, ◌++◌, length, get_or, take, drop, refl, sym, ap, ◌∙◌, inl, inr, arith, w64, length-append, length-drop}
+use Rattle.std.proofs.Common.{◌≡◌, ◌⊎◌, ℕ, zero, suc, ◌+◌, ◌-◌, ◌*◌, ◌/◌, ◌%◌, ◌^◌, ◌<◌, ◌≤◌, Bool, true, false, cond, List, ◌++◌, length, get_or, take, drop, Option, Some, None, IfSome, Bor, refl, sym, ap, ◌∙◌, inl, inr, arith, w64, length-append, length-drop}
 use Rattle.std.specs.Int.{to_le_bytes}
 use Rattle.std.specs.List.{slice_range}
 use Rattle.std.proofs.Math.Seq.{take-add}
@@ -13,6 +13,7 @@ use Rattle.py_base.specs.declared.kind.Kind.TheVariants.{Str, Tuple, List as Lis
 use Rattle.py_data.specs.declared.value.Value.{Value}
 use Rattle.py_data.specs.declared.value.Value.TheVariants.{Unset}
 use Rattle.py_data.specs.Heap.{has_bytes, has_rooms, length_of, value_at}
+use Rattle.page_table.specs.Lists.{word_at, IsRun}
 use Rattle.paged_store.specs.Words.{Words, value_of, room_in, class_in, first_in, record_of, decode, kind_by, count_by, body_by, body_size}
 use Rattle.paged_store.specs.inner.Formed.{Formed}
 use Rattle.paged_store.specs.inner.Sight.{Stands}
@@ -21,6 +22,13 @@ use Rattle.paged_store.proofs.RecordWords.{room_in_next, kind_is, room_is, first
 pub room_some : (c : ℕ) → 1 ≤ c → room_in c ≡ 2 ^ (c - 1)
 room_some zero h = absurd (omega arith)
 room_some (suc c) h = room_in_next c ∙ ap (λ z. 2 ^ z) (omega arith)
+
+-- a word of those from a place on, where they were found in one page
+pub run_word : (f : ℕ → ℕ) (place n j : ℕ) (words : Option (Bor (List ℕ))) →
+    IfSome words (λ s. IsRun f place n s.now) → j < n →
+    IfSome words (λ s. (j < length s.now) × (word_at s.now j ≡ f (place + j)))
+run_word f place n j None run h = tt
+run_word f place n j (Some s) run h = (omega (arith, run.count, h), run.each j h)
 
 -- ---- lengths
 
@@ -119,6 +127,19 @@ value_found w reserved a b n i v r e f there none = elim (leb_tells (suc i) n) [
   | inl h ↦ there (omega (arith, h.1)) ∙ value_there w reserved a b i r (omega (arith, h.1, e)) f
   | inr h ↦ none (omega (arith, h.1)) ∙ sym (get_or_past (decode w a).values i Unset (omega (arith, h.1, e)))
 ]
+
+-- the value at a place, by its two words in a list of those from the body on
+pub value_in_run : (w : Words) (reserved a b n i : ℕ) (ws : List ℕ) (v : Value) → Stands w reserved a →
+    i < length (decode w a).values → b ≡ body_by w a → IsRun w b n ws → 2 * i + 1 < n →
+    v ≡ value_of (word_at ws (2 * i)) (word_at ws (2 * i + 1)) → v ≡ value_at (decode w a).values i
+value_in_run w reserved a b n i ws v r h e run within is =
+    is ∙ (λ t. value_of (first t) (second t)) ∙ value_there w reserved a b i r h e
+  where
+    first : word_at ws (2 * i) ≡ w (b + 2 * i)
+    first = run.each (2 * i) (omega arith)
+
+    second : word_at ws (2 * i + 1) ≡ w (b + 2 * i + 1)
+    second = run.each (2 * i + 1) within ∙ ap w (omega arith)
 
 -- ---- rooms
 

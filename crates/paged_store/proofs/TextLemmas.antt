@@ -1,16 +1,19 @@
 -- When two strings in words have the same bytes.
-use Rattle.std.proofs.Common.{◌≡◌, ◌≢◌, ℕ, ◌+◌, ◌-◌, ◌*◌, ◌/◌, ◌%◌, ◌^◌, ◌<◌, ◌≤◌, Bool, true, false, cond, List, ◌++◌, length, get_or, take, drop, refl, sym, ap, ◌∙◌, w64, arith, length-drop}
+use Rattle.std.proofs.Common.{◌≡◌, ◌≢◌, ℕ, ◌+◌, ◌-◌, ◌*◌, ◌/◌, ◌%◌, ◌^◌, ◌<◌, Bool, true, false, cond, List, ◌++◌, length, get_or, take, drop, refl, sym, ap, ◌∙◌, w64, arith, length-drop}
 use lib.Pointwise.{bytes_decides}
 use Rattle.std.specs.Int.{to_le_bytes, from_le_bytes}
 use Rattle.std.specs.List.{slice_range}
 use Rattle.std.proofs.lemmas.Bool.{both_ways}
 use Rattle.std.proofs.lemmas.Nat.{from_le_bytes-to_le_bytes_8}
 use Rattle.std.proofs.lemmas.List.{ext_get_or, get_or-take, length-take-le, take-append-drop, take_all}
+use Rattle.py_base.specs.declared.kind.Kind.{Kind}
 use Rattle.py_base.specs.declared.kind.Kind.TheVariants.{Str}
 use Rattle.py_data.specs.Heap.{has_bytes, length_of}
 use Rattle.py_data.specs.Shape.{same_bytes}
+use Rattle.page_table.specs.Pages.{Table}
+use Rattle.paged_store.specs.declared.sight.Seen.{Seen}
 use Rattle.paged_store.specs.Words.{Words, decode, kind_by, count_by, body_by}
-use Rattle.paged_store.specs.inner.Sight.{Stands, SameWords, OtherWords}
+use Rattle.paged_store.specs.inner.Sight.{Stands, CanRead, IsText, SameWords, OtherWords, words_seen, record_seen}
 use Rattle.paged_store.proofs.RecordWords.{kind_is, bytes_length, text_fits, byte_read}
 use Rattle.paged_store.proofs.ReadLemmas.{length_read, byte_of_word, part_there}
 
@@ -48,15 +51,28 @@ word_by_bytes x y p q same = sym (from_le_bytes-to_le_bytes_8 x p) ∙ ap (λ bs
 -- ---- two strings
 
 -- how a string lies in words
-pub text_length : (w : Words) (a n : ℕ) → (decode w a).kind ≡ Str → n ≡ length_of (decode w a) →
-    n ≡ length (decode w a).bytes
-text_length w a n k e = e ∙ ap (λ b. cond b (length (decode w a).bytes) (length (decode w a).values)) (ap has_bytes k)
-
-pub text_within : (w : Words) (reserved a x n : ℕ) → Stands w reserved a → (decode w a).kind ≡ Str → x ≡ body_by w a →
-    n ≡ length_of (decode w a) → 0 < n → x + (n + 7) / 8 ≤ reserved
-text_within w reserved a x n r k e f some =
-    let has : has_bytes (kind_by w a) ≡ true = ap has_bytes (sym (kind_is w a) ∙ k) in
-    omega (arith, e, f, length_read w a, text_fits w a has r.formed, r.body)
+pub is_text : (t : Table) (seen : Seen) (a x n : ℕ) (k : Kind) → CanRead t seen a →
+    k ≡ (record_seen t seen a).kind → k ≡ Str → n ≡ length_of (record_seen t seen a) →
+    x ≡ body_by (words_seen t seen) a → IsText t seen a x n
+is_text t seen a x n k r f s count e =
+    let kind : (record_seen t seen a).kind ≡ Str = sym f ∙ s in
+    let has : has_bytes (kind_by (words_seen t seen) a) ≡ true =
+    ap has_bytes (sym (kind_is (words_seen t seen) a) ∙ kind) in
+    record {
+      there = r;
+      kind = kind;
+      body = e;
+      count = count ∙ ap (λ b. cond b (length (record_seen t seen a).bytes) (length (record_seen t seen a).values))
+          (ap has_bytes kind);
+      within = λ some. omega (
+        arith,
+        e,
+        count,
+        length_read (words_seen t seen) a,
+        text_fits (words_seen t seen) a has r.stands.formed,
+        r.stands.body,
+      );
+    }
 
 module _ (w : Words) (reserved a b x y n : ℕ) (r : Stands w reserved a) (q : Stands w reserved b)
     (s : (decode w a).kind ≡ Str) (t : (decode w b).kind ≡ Str) (e : x ≡ body_by w a) (f : y ≡ body_by w b)

@@ -1,17 +1,17 @@
 //! The pair of a dictionary in words with an equal key.
 ghost use Rattle.std.specs.Prelude.{◌≡◌, ℕ, ◌+◌, ◌*◌, ◌/◌, ◌^◌, ◌<◌, ◌≤◌, eqb, length, Some, true, IfSome, MatchBool};
-ghost use Rattle.py_base.specs.declared.kind.Kind.TheVariants.{Str, Dict};
+ghost use Rattle.py_base.specs.declared.kind.Kind.TheVariants.{Dict};
 ghost use Rattle.py_data.specs.declared.value.Value.TheVariants.{Ref};
 ghost use Rattle.py_data.specs.Heap.{Heap, value_at};
 ghost use Rattle.py_data.specs.Shape.{find, same_key, same_bytes, same_text, text_in, ArePairs, KeysDiffer};
-ghost use Rattle.page_table.specs.Lists.{table_of};
+ghost use Rattle.page_table.specs.Lists.{table_of, word_at};
 ghost use Rattle.paged_store.specs.Words.{body_by, index_by, index_size};
 ghost use Rattle.paged_store.specs.inner.Indexed.{IsIndexed};
-ghost use Rattle.paged_store.specs.inner.Sight.{words_seen, record_seen, IsSeen, CanRead, SameWords, OtherWords, IsKeySeen, KeysSeen, KnowsKeys, heap_seen};
+ghost use Rattle.paged_store.specs.inner.Sight.{words_seen, record_seen, IsSeen, CanRead, SameWords, OtherWords, IsText, IsKeySeen, KeysSeen, KnowsKeys, heap_seen};
 
 use crate::hash::home;
-use crate::index::slots;
-use crate::sight::{Seen, body, kind, len, two_words, value, word};
+use crate::index::slots_by;
+use crate::sight::{Seen, head_words, layout, run, two_words, value, word, word_in};
 use crate::value::{known_value, payload, tag};
 use dict_index::slots::next;
 use page_table::Pages;
@@ -26,37 +26,34 @@ fn same_words(pages: &Pages, seen: Seen, x: usize, y: usize, n: usize) -> bool
         MatchBool result (SameWords w x y n) (OtherWords w x y n) }
 {
     pages.known();
+    let first = run(pages, seen, x, n);
+    let second = run(pages, seen, y, n);
     'words: for j in 0..n {
-        if word(pages, seen, (x + j) as u32) != word(pages, seen, (y + j) as u32) {
+        if word_in(pages, seen, first, x, j) != word_in(pages, seen, second, y, j) {
             return false;
         }
     }
     true
 }
 
-/// Where the bytes of a string begin, and how many there are.
-pub(crate) fn text(pages: &Pages, seen: Seen, a: u32) -> (usize, usize)
-    requires there { CanRead (table_of pages.now) seen a }
-    requires kind { (record_seen (table_of pages.now) seen a).kind ≡ Str }
-    ensures body { result.0 ≡ body_by (words_seen (table_of pages.now) seen) a }
-    ensures length { result.1 ≡ length (record_seen (table_of pages.now) seen a).bytes }
-    ensures within { 0 < result.1 → result.0 + (result.1 + 7) / 8 ≤ (table_of pages.now).reserved }
-{
-    (body(pages, seen, a), len(pages, seen, a))
-}
-
-/// Whether the strings at two addresses have the same bytes. What stands behind the last byte of each isn't compared.
-fn same_bytes(pages: &Pages, seen: Seen, a: u32, b: u32) -> bool
-    requires first { CanRead (table_of pages.now) seen a }
-    requires second { CanRead (table_of pages.now) seen b }
-    requires text { (record_seen (table_of pages.now) seen a).kind ≡ Str }
-    requires other { (record_seen (table_of pages.now) seen b).kind ≡ Str }
+/// Whether the strings at two addresses, of `n` and of `m` bytes from `x` and from `y` on, have the same bytes. What
+/// stands behind the last byte of each isn't compared.
+fn same_bytes(
+    pages: &Pages,
+    seen: Seen,
+    a: u32,
+    b: u32,
+    x: usize,
+    y: usize,
+    n: usize,
+    m: usize,
+) -> bool
+    requires first { IsText (table_of pages.now) seen a x n }
+    requires second { IsText (table_of pages.now) seen b y m }
     ensures { result
         ≡ same_bytes (record_seen (table_of pages.now) seen a).bytes (record_seen (table_of pages.now) seen b).bytes }
 {
     pages.known();
-    let (x, n) = text(pages, seen, a);
-    let (y, m) = text(pages, seen, b);
     if n != m {
         return false;
     }
@@ -83,8 +80,10 @@ fn same_address(pages: &Pages, seen: Seen, a: u32, b: u32) -> bool
     if a == b {
         return true;
     }
-    match (kind(pages, seen, a), kind(pages, seen, b)) {
-        (Kind::Str, Kind::Str) => same_bytes(pages, seen, a, b),
+    let (kind, n, x) = layout(pages, seen, a);
+    let (other, m, y) = layout(pages, seen, b);
+    match (kind, other) {
+        (Kind::Str, Kind::Str) => same_bytes(pages, seen, a, b, x, y, n, m),
         _ => false,
     }
 }
@@ -110,23 +109,46 @@ fn same(pages: &Pages, seen: Seen, x: Value, y: Value) -> bool
 /// The most pairs of a dictionary whose keys are looked through before one is hashed.
 const FEW: usize = 8;
 
+/// The number, from 0, of one of the pairs in a list of words whose key has these two.
+fn pair_in_words(words: &[u64], pairs: usize, first: u64, second: u64) -> Option<usize>
+    requires { length words.now ≡ 4 * pairs }
+    ensures { IfSome result (λ i. (i < pairs) × (word_at words.now (4 * i) ≡ first)
+        × (word_at words.now (4 * i + 1) ≡ second)) }
+{
+    'pairs: for i in 0..pairs {
+        if words[4 * i] == first && words[4 * i + 1] == second {
+            return Some(i);
+        }
+    }
+    None
+}
+
 /// The number, from 0, of a pair of a dictionary whose key is the record at an address, where the pairs are few and one
-/// is.
-fn same_place(pages: &Pages, seen: Seen, d: u32, body: usize, a: Addr) -> Option<usize>
+/// is. Where their words lie in one page, that is found once.
+fn pair_of_record(
+    pages: &Pages,
+    seen: Seen,
+    d: u32,
+    body: usize,
+    pairs: usize,
+    a: Addr,
+) -> Option<usize>
     requires there { CanRead (table_of pages.now) seen d }
-    requires kind { (record_seen (table_of pages.now) seen d).kind ≡ Dict }
     requires body { body ≡ body_by (words_seen (table_of pages.now) seen) d }
+    requires pairs { pairs ≡ length (record_seen (table_of pages.now) seen d).values / 2 }
     ensures { let xs = (record_seen (table_of pages.now) seen d).values in
         IfSome result (λ i. (i < length xs / 2) × (value_at xs (2 * i) ≡ Ref a)) }
 {
     pages.known();
-    let pairs = len(pages, seen, d) / 2;
     if pairs > FEW {
         return None;
     }
     let key = Value::Ref(a);
     let (first, second) = (tag(key), payload(key));
     known_value(key);
+    if let Some(words) = run(pages, seen, body, 4 * pairs) {
+        return pair_in_words(words, pairs, first, second);
+    }
     'pairs: for i in 0..pairs {
         let (x, y) = two_words(pages, seen, (body + 4 * i) as u32);
         if x == first && y == second {
@@ -137,21 +159,29 @@ fn same_place(pages: &Pages, seen: Seen, d: u32, body: usize, a: Addr) -> Option
 }
 
 /// The same for a key, which may be another value.
-fn same_record(pages: &Pages, seen: Seen, d: u32, body: usize, key: Value) -> Option<usize>
+fn pair_by_record(
+    pages: &Pages,
+    seen: Seen,
+    d: u32,
+    body: usize,
+    pairs: usize,
+    key: Value,
+) -> Option<usize>
     requires there { CanRead (table_of pages.now) seen d }
-    requires kind { (record_seen (table_of pages.now) seen d).kind ≡ Dict }
     requires body { body ≡ body_by (words_seen (table_of pages.now) seen) d }
+    requires pairs { pairs ≡ length (record_seen (table_of pages.now) seen d).values / 2 }
     ensures { let xs = (record_seen (table_of pages.now) seen d).values in IfSome result (λ i. (i < length xs / 2)
         × (same_key (heap_seen (table_of pages.now) seen) (value_at xs (2 * i)) key ≡ true)) }
 {
     match key {
-        Value::Ref(a) => same_place(pages, seen, d, body, a),
+        Value::Ref(a) => pair_of_record(pages, seen, d, body, pairs, a),
         _ => None,
     }
 }
 
-/// The number, from 0, of the pair whose key is equal. Where the pairs are few and one has this very record as its key,
-/// that is seen at once. Else it goes through the slots of the index, from the key's home to an empty one.
+/// The number, from 0, of the pair whose key is equal. Where there are no pairs, or few, of which one has this very
+/// record as its key, that is seen at once. Else it goes through the slots of the index, from the key's home to an
+/// empty one.
 pub fn find_key(pages: &Pages, seen: Seen, d: u32, key: Value) -> Option<usize>
     requires there { CanRead (table_of pages.now) seen d }
     requires kind { (record_seen (table_of pages.now) seen d).kind ≡ Dict }
@@ -171,11 +201,15 @@ pub fn find_key(pages: &Pages, seen: Seen, d: u32, key: Value) -> Option<usize>
         → result ≡ find h (record_seen (table_of pages.now) seen d).values key }
 {
     pages.known();
-    let (place, n) = slots(pages, seen, d);
-    let body = body(pages, seen, d);
-    if let Some(pair) = same_record(pages, seen, d, body, key) {
+    let (first, count, body) = head_words(pages, seen, d);
+    let (pairs, body) = (count as usize / 2, body as usize);
+    if pairs == 0 {
+        return None;
+    }
+    if let Some(pair) = pair_by_record(pages, seen, d, body, pairs, key) {
         return Some(pair);
     }
+    let (place, n) = slots_by(pages, seen, d, first);
     let start = home(pages, seen, key, n);
     let mut at = start;
     'slots: for j in 0..n {

@@ -1,16 +1,13 @@
 //! Hashes of keys, and their homes in an index.
-ghost use Rattle.std.specs.Prelude.{◌≡◌, ◌*◌, ◌^◌, ◌<◌, ◌≤◌, length, Some};
-ghost use Rattle.py_base.specs.declared.kind.Kind.TheVariants.{Str};
+ghost use Rattle.std.specs.Prelude.{◌≡◌, ◌+◌, ◌*◌, ◌/◌, ◌^◌, ◌<◌, ◌≤◌, Some, IfSome};
 ghost use Rattle.py_data.specs.Shape.{text_in};
-ghost use Rattle.page_table.specs.Lists.{table_of};
+ghost use Rattle.page_table.specs.Lists.{table_of, IsRun};
 ghost use Rattle.dict_index.specs.Packed.{packed};
 ghost use Rattle.dict_index.specs.Keys.{text_or_name, hash_text, hash_of, home_of};
-ghost use Rattle.paged_store.specs.Words.{body_by};
-ghost use Rattle.paged_store.specs.inner.Sight.{words_seen, record_seen, CanRead, IsKeySeen};
+ghost use Rattle.paged_store.specs.inner.Sight.{words_seen, record_seen, CanRead, IsText, IsKeySeen};
 ghost use Rattle.paged_store.specs.inner.Indexed.{class_by};
 
-use crate::find::text;
-use crate::sight::{Seen, kind, word};
+use crate::sight::{Seen, layout, run, word_in};
 use dict_index::hash::{BUILT, NAMED, hash_int, hash_length, mix};
 use dict_index::slots::home_from;
 use page_table::Pages;
@@ -18,16 +15,22 @@ use py_data::{Kind, Value};
 
 /// The word of that number, from 0, of a string of `n` bytes that begins at `x`. What stands behind its bytes is left
 /// out.
-fn text_word(pages: &Pages, seen: Seen, a: u32, x: usize, n: usize, j: usize) -> u64
-    requires there { CanRead (table_of pages.now) seen a }
-    requires kind { (record_seen (table_of pages.now) seen a).kind ≡ Str }
-    requires body { x ≡ body_by (words_seen (table_of pages.now) seen) a }
-    requires length { n ≡ length (record_seen (table_of pages.now) seen a).bytes }
+fn text_word(
+    pages: &Pages,
+    seen: Seen,
+    a: u32,
+    x: usize,
+    n: usize,
+    words: Option<&[u64]>,
+    j: usize,
+) -> u64
+    requires text { IsText (table_of pages.now) seen a x n }
     requires within { 8 * j < n }
+    requires words { IfSome words (λ s. IsRun (words_seen (table_of pages.now) seen) x ((n + 7) / 8) s.now) }
     ensures { result ≡ packed (record_seen (table_of pages.now) seen a).bytes j }
 {
     pages.known();
-    let word = word(pages, seen, (x + j) as u32);
+    let word = word_in(pages, seen, words, x, j);
     let left = n - 8 * j;
     if left < 8 {
         word % (1u64 << (8 * left))
@@ -36,17 +39,17 @@ fn text_word(pages: &Pages, seen: Seen, a: u32, x: usize, n: usize, j: usize) ->
     }
 }
 
-/// The hash of the string at an address.
-fn text_hash(pages: &Pages, seen: Seen, a: u32) -> u64
-    requires there { CanRead (table_of pages.now) seen a }
-    requires kind { (record_seen (table_of pages.now) seen a).kind ≡ Str }
+/// The hash of a string of `n` bytes that begins at `x`.
+fn text_hash(pages: &Pages, seen: Seen, a: u32, x: usize, n: usize) -> u64
+    requires { IsText (table_of pages.now) seen a x n }
     ensures { result ≡ hash_text (record_seen (table_of pages.now) seen a).bytes }
 {
     pages.known();
-    let (x, n) = text(pages, seen, a);
     let mut hash = hash_length(n);
-    'words: for j in 0..(n + 7) / 8 {
-        hash = mix(hash, text_word(pages, seen, a, x, n, j));
+    let count = (n + 7) / 8;
+    let words = run(pages, seen, x, count);
+    'words: for j in 0..count {
+        hash = mix(hash, text_word(pages, seen, a, x, n, words, j));
     }
     hash
 }
@@ -57,8 +60,9 @@ fn address_hash(pages: &Pages, seen: Seen, a: u32) -> u64
     requires { CanRead (table_of pages.now) seen a }
     ensures { result ≡ hash_of (text_or_name a (text_in (Some (record_seen (table_of pages.now) seen a)))) }
 {
-    match kind(pages, seen, a) {
-        Kind::Str => text_hash(pages, seen, a),
+    let (kind, n, x) = layout(pages, seen, a);
+    match kind {
+        Kind::Str => text_hash(pages, seen, a, x, n),
         _ => mix(NAMED, u64::from(a)),
     }
 }

@@ -1,5 +1,5 @@
 //! The index of a dictionary as it is read.
-ghost use Rattle.std.specs.Prelude.{◌≡◌, ℕ, ◌+◌, ◌<◌, ◌≤◌, ◌^◌, length};
+ghost use Rattle.std.specs.Prelude.{◌≡◌, ℕ, ◌+◌, ◌*◌, ◌<◌, ◌≤◌, ◌^◌, length};
 ghost use Rattle.py_base.specs.declared.kind.Kind.TheVariants.{Dict};
 ghost use Rattle.py_data.specs.declared.value.Value.{Value};
 ghost use Rattle.page_table.specs.Lists.{table_of};
@@ -12,12 +12,32 @@ ghost use Rattle.paged_store.specs.inner.Sight.{words_seen, record_seen, IsSeen,
 
 use crate::grow::size_of;
 use crate::hash::home;
-use crate::sight::{Seen, header, word};
+use crate::sight::{Seen, word};
+use crate::value::Header;
 use dict_index::slots::next;
 use page_table::Pages;
 use py_data::Value;
 
-/// Where the index of a dictionary begins, and how many slots it has.
+/// Where the index of a dictionary begins, and how many slots it has, by the first word of its header.
+pub(crate) fn slots_by(pages: &Pages, seen: Seen, d: u32, first: u64) -> (u32, usize)
+    requires there { CanRead (table_of pages.now) seen d }
+    requires kind { (record_seen (table_of pages.now) seen d).kind ≡ Dict }
+    requires first { first ≡ words_seen (table_of pages.now) seen (2 * d) }
+    requires extent { let w = words_seen (table_of pages.now) seen in
+        index_by w d + index_size w d ≤ (table_of pages.now).reserved }
+    ensures place { result.0 ≡ index_by (words_seen (table_of pages.now) seen) d }
+    ensures size { result.1 ≡ index_size (words_seen (table_of pages.now) seen) d }
+    ensures within { result.0 + result.1 ≤ (table_of pages.now).reserved }
+    ensures room { pairs_by (words_seen (table_of pages.now) seen) d < result.1 }
+    ensures most { result.1 ≤ 2 ^ 20 }
+{
+    pages.known();
+    let place = word(pages, seen, 2 * d + 3) as u32;
+    let size = size_of(Header::of(first).index);
+    (place, size as usize)
+}
+
+/// The same, where that word isn't read yet.
 pub(crate) fn slots(pages: &Pages, seen: Seen, d: u32) -> (u32, usize)
     requires there { CanRead (table_of pages.now) seen d }
     requires kind { (record_seen (table_of pages.now) seen d).kind ≡ Dict }
@@ -30,9 +50,7 @@ pub(crate) fn slots(pages: &Pages, seen: Seen, d: u32) -> (u32, usize)
     ensures most { result.1 ≤ 2 ^ 20 }
 {
     pages.known();
-    let place = word(pages, seen, 2 * d + 3) as u32;
-    let size = size_of(header(pages, seen, d).index);
-    (place, size as usize)
+    slots_by(pages, seen, d, word(pages, seen, 2 * d))
 }
 
 /// The first empty slot from a slot on, of `n` from a place on.

@@ -1,9 +1,9 @@
 //! Records as they are read in words: in those of the image, or in a segment's.
-ghost use Rattle.std.specs.Prelude.{◌≡◌, ℕ, ◌+◌, ◌-◌, ◌*◌, ◌%◌, ◌<◌, ◌≤◌, length, take, drop, slice_index};
+ghost use Rattle.std.specs.Prelude.{◌≡◌, ℕ, ◌+◌, ◌-◌, ◌*◌, ◌%◌, ◌<◌, ◌≤◌, length, take, drop, slice_index, IfSome};
 ghost use Rattle.py_data.specs.declared.value.Value.TheVariants.{Unset};
 ghost use Rattle.py_data.specs.Heap.{length_of, value_at};
 ghost use Rattle.py_data.specs.Looking.{head_of};
-ghost use Rattle.page_table.specs.Lists.{table_of};
+ghost use Rattle.page_table.specs.Lists.{table_of, word_at, IsRun};
 ghost use Rattle.paged_store.specs.Words.{value_of, kind_by, class_in, index_class_in, first_in, count_by, body_by, room_in};
 ghost use Rattle.paged_store.specs.inner.Sight.{words_seen, record_seen, IsSeen, CanRead};
 
@@ -41,6 +41,41 @@ pub(crate) fn two_words(pages: &Pages, seen: Seen, place: u32) -> (u64, u64)
     match seen {
         Seen::Image => (pages.shared_word(place), pages.shared_word(place + 1)),
         Seen::Segment(k) => pages.two_words(k, place),
+    }
+}
+
+/// The words from a place on, where they are several of a segment's and lie in one page.
+pub(crate) fn run(pages: &Pages, seen: Seen, place: usize, n: usize) -> Option<&[u64]>
+    requires segment { IsSeen (table_of pages.now) seen }
+    requires span { 0 < n → place + n ≤ (table_of pages.now).reserved }
+    ensures { IfSome result (λ s. IsRun (words_seen (table_of pages.now) seen) place n s.now) }
+{
+    pages.known();
+    match seen {
+        Seen::Segment(k) if n > 1 => pages.run(k, place as u32, n as u32),
+        _ => None,
+    }
+}
+
+/// A word behind a place, out of the words from there on where they lie in one page.
+#[tactic(auto, unfolding(page_table::specs::Lists::word_at))]
+pub(crate) fn word_in(
+    pages: &Pages,
+    seen: Seen,
+    words: Option<&[u64]>,
+    place: usize,
+    j: usize,
+) -> u64
+    requires segment { IsSeen (table_of pages.now) seen }
+    requires place { place + j < (table_of pages.now).reserved }
+    requires words { IfSome words (λ s. (j < length s.now)
+        × (word_at s.now j ≡ words_seen (table_of pages.now) seen (place + j))) }
+    ensures { result ≡ words_seen (table_of pages.now) seen (place + j) }
+{
+    pages.known();
+    match words {
+        Some(words) => words[j],
+        None => word(pages, seen, (place + j) as u32),
     }
 }
 
@@ -104,7 +139,7 @@ pub fn val(pages: &Pages, seen: Seen, a: u32, i: usize) -> Value
 }
 
 /// The first three words of a record's header: its kind and classes, its count, and where its body begins.
-fn head_words(pages: &Pages, seen: Seen, a: u32) -> (u64, u64, u64)
+pub(crate) fn head_words(pages: &Pages, seen: Seen, a: u32) -> (u64, u64, u64)
     requires { CanRead (table_of pages.now) seen a }
     ensures first { result.0 ≡ words_seen (table_of pages.now) seen (2 * a) }
     ensures count { result.1 ≡ count_by (words_seen (table_of pages.now) seen) a }
@@ -121,19 +156,29 @@ fn head_words(pages: &Pages, seen: Seen, a: u32) -> (u64, u64, u64)
     }
 }
 
-/// Its kind, how many values it has, of which a Str has none, and where its body begins, if it has one. The header is
+/// Its kind, its count, which is of a Str that of its bytes, and where its body begins, if it has one. The header is
 /// read once.
+pub(crate) fn layout(pages: &Pages, seen: Seen, a: u32) -> (Kind, usize, usize)
+    requires { CanRead (table_of pages.now) seen a }
+    ensures kind { result.0 ≡ (record_seen (table_of pages.now) seen a).kind }
+    ensures count { result.1 ≡ length_of (record_seen (table_of pages.now) seen a) }
+    ensures body { result.2 ≡ body_by (words_seen (table_of pages.now) seen) a }
+{
+    let (first, count, body) = head_words(pages, seen, a);
+    (Header::of(first).kind, count as usize, body as usize)
+}
+
+/// The same with how many values it has, of which a Str has none.
 fn outline(pages: &Pages, seen: Seen, a: u32) -> (Kind, usize, usize)
     requires { CanRead (table_of pages.now) seen a }
     ensures kind { result.0 ≡ (record_seen (table_of pages.now) seen a).kind }
     ensures count { result.1 ≡ length (record_seen (table_of pages.now) seen a).values }
     ensures body { result.2 ≡ body_by (words_seen (table_of pages.now) seen) a }
 {
-    let (first, count, body) = head_words(pages, seen, a);
-    let kind = Header::of(first).kind;
+    let (kind, count, body) = layout(pages, seen, a);
     match kind {
-        Kind::Str => (kind, 0, body as usize),
-        _ => (kind, count as usize, body as usize),
+        Kind::Str => (kind, 0, body),
+        _ => (kind, count, body),
     }
 }
 
@@ -164,18 +209,52 @@ pub fn find_val(pages: &Pages, seen: Seen, a: u32, i: usize) -> (Kind, Value)
     (kind, value_in(pages, seen, body, count, i))
 }
 
+/// The first three values of a body; Unset for each that it hasn't. Where it has them and they lie in one page, that is
+/// found once.
+fn three_values(
+    pages: &Pages,
+    seen: Seen,
+    a: u32,
+    body: usize,
+    count: usize,
+) -> (Value, Value, Value)
+    requires there { CanRead (table_of pages.now) seen a }
+    requires count { count ≡ length (record_seen (table_of pages.now) seen a).values }
+    requires body { body ≡ body_by (words_seen (table_of pages.now) seen) a }
+    ensures first { result.0 ≡ value_at (record_seen (table_of pages.now) seen a).values 0 }
+    ensures second { result.1 ≡ value_at (record_seen (table_of pages.now) seen a).values 1 }
+    ensures third { result.2 ≡ value_at (record_seen (table_of pages.now) seen a).values 2 }
+{
+    pages.known();
+    if count >= 3 {
+        if let Some(w) = run(pages, seen, body, 6) {
+            return (
+                value_at(w[0], w[1]),
+                value_at(w[2], w[3]),
+                value_at(w[4], w[5]),
+            );
+        }
+    }
+    (
+        value_in(pages, seen, body, count, 0),
+        value_in(pages, seen, body, count, 1),
+        value_in(pages, seen, body, count, 2),
+    )
+}
+
 /// Its kind, the count of its values and the first three.
 pub fn head(pages: &Pages, seen: Seen, a: u32) -> Head
     requires { CanRead (table_of pages.now) seen a }
     ensures { result ≡ head_of (record_seen (table_of pages.now) seen a) }
 {
     let (kind, count, body) = outline(pages, seen, a);
+    let (first, second, third) = three_values(pages, seen, a, body, count);
     Head {
         kind,
         count,
-        first: value_in(pages, seen, body, count, 0),
-        second: value_in(pages, seen, body, count, 1),
-        third: value_in(pages, seen, body, count, 2),
+        first,
+        second,
+        third,
     }
 }
 

@@ -1,5 +1,6 @@
 -- Whose words are read, and what they are. What code and proofs say to each other: nothing public rests on it.
-use Rattle.std.specs.Prelude.{◌≡◌, ◌≢◌, ℕ, ◌+◌, ◌*◌, ◌^◌, ◌<◌, ◌≤◌, List, length, Some}
+use Rattle.std.specs.Prelude.{◌≡◌, ◌≢◌, ℕ, ◌+◌, ◌*◌, ◌/◌, ◌^◌, ◌<◌, ◌≤◌, List, length, Some}
+use Rattle.py_base.specs.declared.kind.Kind.TheVariants.{Str}
 use Rattle.py_data.specs.declared.value.Value.{Value}
 use Rattle.py_data.specs.declared.value.Value.TheVariants.{Ref}
 use Rattle.py_data.specs.Heap.{Rec, Heap, value_at}
@@ -55,6 +56,14 @@ pub record OtherWords (w : Words) (x y n : ℕ) : Type 0 where
   pub other : w (x + at) ≢ w (y + at)
   pub first : w (x + at) < 2 ^ 64
   pub second : w (y + at) < 2 ^ 64
+
+-- the string at an address has n bytes, from x on
+pub record IsText (t : Table) (seen : Seen) (a x n : ℕ) : Type 0 where
+  pub there : CanRead t seen a
+  pub kind : (record_seen t seen a).kind ≡ Str
+  pub body : x ≡ body_by (words_seen t seen) a
+  pub count : n ≡ length (record_seen t seen a).bytes
+  pub within : 0 < n → x + (n + 7) / 8 ≤ t.reserved
 
 -- ---- keys
 

@@ -1,0 +1,4 @@
+use Rattle.paged_store.proofs.find.pair_in_words.Given as goal
+
+abbrev pub invariant-pairs : goal.invariant-pairs
+invariant-pairs l = Unit {0}
