@@ -80,7 +80,9 @@ fn text_by<S, V: View<S>>(
     ensures { Meets V.sense (text_by a.0 string) v.old v.new result }
 {
     if string {
-        Ok(Got::Is(bytes_of(alloc, v, a)?))
+        let text = bytes_of(alloc, v, a)?;
+        let bytes = text.to_bytes(alloc)?;
+        Ok(Got::Is(bytes))
     } else {
         wrong_operand(alloc)
     }

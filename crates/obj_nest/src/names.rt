@@ -4,7 +4,7 @@ ghost use Rattle.py_data.specs.Sense.{Meets, Safe, IsLive};
 ghost use Rattle.obj_nest.specs.Text.{between_row, name_by, name_row, named_row, other_text, quoted_row, string_row};
 
 use crate::pieces::{builtin_text, enclosed, extended, with_plain};
-use obj_str::bytes_of;
+use obj_str::{Text, bytes_of};
 use py_data::{Addr, Bytes, Got, Kind, Stop, Value, View, look};
 use py_text::repr_bytes;
 use std::alloc::Global;
@@ -29,20 +29,20 @@ pub fn quoted<S, V: View<S>>(
 
 /// The bytes of the string that a value is the address of.
 #[tactic(auto, using(py_data::proofs::Rows::row_steps, py_data::proofs::Steps::call_steps), unfolding(crate::specs::Text::string_row))]
-fn string<S, V: View<S>>(alloc: Global, v: &mut V, x: Value) -> Result<Bytes, Stop>
+fn string<S, V: View<S>>(alloc: Global, v: &mut V, x: Value) -> Result<Text, Stop>
     requires live { IsLive V.sense v.old }
     requires safe { Safe V.sense.partial (string_row {S = S} x) (V.sense.heap v.old) }
     ensures { Meets V.sense (string_row x) v.old v.new result }
 {
     match x {
         Value::Ref(a) => bytes_of(alloc, v, a),
-        _ => Ok(Bytes::new(alloc)),
+        _ => Ok(Text::from_slice(alloc, &[])?),
     }
 }
 
 /// The name of the function or class at an address.
 #[tactic(auto, using(py_data::proofs::Rows::row_steps, py_data::proofs::Steps::call_steps), unfolding(crate::specs::Text::name_row))]
-fn name<S, V: View<S>>(alloc: Global, v: &mut V, a: Addr) -> Result<Bytes, Stop>
+fn name<S, V: View<S>>(alloc: Global, v: &mut V, a: Addr) -> Result<Text, Stop>
     requires live { IsLive V.sense v.old }
     requires safe { Safe V.sense.partial (name_row {S = S} a.0) (V.sense.heap v.old) }
     ensures { Meets V.sense (name_row a.0) v.old v.new result }
@@ -53,21 +53,21 @@ fn name<S, V: View<S>>(alloc: Global, v: &mut V, a: Addr) -> Result<Bytes, Stop>
 
 /// The name of a function, a class or a builtin.
 #[tactic(auto, using(py_data::proofs::Rows::row_steps, py_data::proofs::Steps::call_steps), unfolding(crate::specs::Text::name_by))]
-fn name_by<S, V: View<S>>(alloc: Global, v: &mut V, x: Value) -> Result<Bytes, Stop>
+fn name_by<S, V: View<S>>(alloc: Global, v: &mut V, x: Value) -> Result<Text, Stop>
     requires live { IsLive V.sense v.old }
     requires safe { Safe V.sense.partial (name_by {S = S} x) (V.sense.heap v.old) }
     ensures { Meets V.sense (name_by x) v.old v.new result }
 {
     match x {
         Value::Ref(a) => name(alloc, v, a),
-        Value::Builtin(b) => Ok(Bytes::from_slice(alloc, builtin_text(b))?),
-        _ => Ok(Bytes::new(alloc)),
+        Value::Builtin(b) => Ok(Text::from_slice(alloc, builtin_text(b))?),
+        _ => Ok(Text::from_slice(alloc, &[])?),
     }
 }
 
 /// The name of an instance's class, and of a method's function or builtin.
 #[tactic(auto, using(py_data::proofs::Rows::row_steps, py_data::proofs::Steps::call_steps), unfolding(crate::specs::Text::named_row))]
-fn named<S, V: View<S>>(alloc: Global, v: &mut V, a: Addr) -> Result<Bytes, Stop>
+fn named<S, V: View<S>>(alloc: Global, v: &mut V, a: Addr) -> Result<Text, Stop>
     requires live { IsLive V.sense v.old }
     requires safe { Safe V.sense.partial (named_row {S = S} a.0) (V.sense.heap v.old) }
     ensures { Meets V.sense (named_row a.0) v.old v.new result }

@@ -417,7 +417,8 @@ fn alone_by<S, V: View<S>>(
     match k {
         Kind::Str => {
             let text = bytes_of(alloc, v, a)?;
-            Ok(Got::Is(text))
+            let bytes = text.to_bytes(alloc)?;
+            Ok(Got::Is(bytes))
         }
         _ => repr(alloc, v, levels, Value::Ref(a)),
     }

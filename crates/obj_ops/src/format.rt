@@ -300,16 +300,16 @@ fn format_template<S, V: View<S>>(
     alloc: Global,
     v: &mut V,
     roots: Addr,
-    template: Bytes,
+    template: &[u8],
     tuple: Option<Addr>,
     y: Value,
 ) -> Result<Got<Value>, Stop>
     requires live { IsLive V.sense v.old }
-    requires safe { Safe V.sense.partial (template_row {S = S} roots.0 template tuple y) (V.sense.heap v.old) }
-    ensures { Meets V.sense (template_row roots.0 template tuple y) v.old v.new result }
+    requires safe { Safe V.sense.partial (template_row {S = S} roots.0 template.now tuple y) (V.sense.heap v.old) }
+    ensures { Meets V.sense (template_row roots.0 template.now tuple y) v.old v.new result }
 {
     let args = arguments(alloc, v, tuple, y)?;
-    let ps = pieces(alloc, template.as_slice())?;
+    let ps = pieces(alloc, template)?;
     format_pieces(alloc, v, roots, &ps, &args)
 }
 
@@ -331,5 +331,5 @@ pub fn format_with<S, V: View<S>>(
     ensures { Meets V.sense (format_row roots.0 a.0 tuple y) v.old v.new result }
 {
     let template = bytes_of(alloc, v, a)?;
-    format_template(alloc, v, roots, template, tuple, y)
+    format_template(alloc, v, roots, template.as_slice(), tuple, y)
 }

@@ -172,7 +172,8 @@ pub fn join_texts<S, V: View<S>>(
     requires safe { Safe V.sense.partial (joined_texts {S = S} a.0 b.0) (V.sense.heap v.old) }
     ensures { Meets V.sense (joined_texts a.0 b.0) v.old v.new result }
 {
-    let xs = bytes_of(alloc, v, a)?;
+    let text = bytes_of(alloc, v, a)?;
+    let xs = text.to_bytes(alloc)?;
     join_text_with(alloc, v, xs, b)
 }
 
@@ -252,14 +253,14 @@ fn repeat_bytes<S, V: View<S>>(
     alloc: Global,
     v: &mut V,
     n: u64,
-    bs: Bytes,
+    bs: &[u8],
 ) -> Result<Got<Value>, Stop>
     requires live { IsLive V.sense v.old }
-    requires safe { Safe V.sense.partial (new_repeated {S = S} n bs) (V.sense.heap v.old) }
-    ensures { Meets V.sense (new_repeated n bs) v.old v.new result }
+    requires safe { Safe V.sense.partial (new_repeated {S = S} n bs.now) (V.sense.heap v.old) }
+    ensures { Meets V.sense (new_repeated n bs.now) v.old v.new result }
 {
     if is_short(n, bs.len()) {
-        let all = repeat(alloc, bs.as_slice(), n)?;
+        let all = repeat(alloc, bs, n)?;
         make_str(alloc, v, all.as_slice())
     } else {
         Ok(too_long())
@@ -280,5 +281,5 @@ pub fn repeat_text<S, V: View<S>>(
     ensures { Meets V.sense (repeated_text a.0 n) v.old v.new result }
 {
     let bs = bytes_of(alloc, v, a)?;
-    repeat_bytes(alloc, v, n, bs)
+    repeat_bytes(alloc, v, n, bs.as_slice())
 }

@@ -1,5 +1,5 @@
 -- The bytes of a record that were copied whole.
-use Rattle.std.proofs.Common.{◌≡◌, ℕ, List, length, drop, take, true, Ok, Err, inr, refl, sym, ap, subst, ◌∙◌}
+use Rattle.std.proofs.Common.{◌≡◌, ℕ, List, length, drop, take, true, Result, Ok, Err, inl, inr, refl, sym, ap, subst, ◌∙◌}
 use Rattle.std.proofs.Math.Seq.{take-length}
 use Rattle.std.proofs.lemmas.Bool.{cond-true}
 use Rattle.py_data.specs.declared.stop.Stop.{Stop}
@@ -10,7 +10,7 @@ use Rattle.py_data.specs.Row.{Row, Ret, Do, Read}
 use Rattle.py_data.specs.inner.Rest.{Stands, Leads}
 use Rattle.py_data.specs.Sense.{Sense, Lawful, Asks, Meets, Safe, IsLive, Run, Stopped}
 use Rattle.py_data.specs.Looking.{bytes_row}
-use Rattle.py_data.proofs.Rows.{read-heap, again, meets-do, meets-ret}
+use Rattle.py_data.proofs.Rows.{read-heap, read-at, again, meets-do, meets-ret}
 use Rattle.py_data.proofs.Steps.{stands-again, stands-read, there-is}
 use Rattle.py_data.specs.Fault.{argument_fault}
 use Rattle.obj_seq.proofs.AfterLook.{looked-record, leads-looked}
@@ -32,24 +32,30 @@ bytes_met {u = u} L a n v m w got out d e f o g =
     (subst (λ z. Meets u (Ret r.bytes) m z (Ok got)) (sym still)
     (subst (λ b. Meets u (Ret r.bytes) m m (Ok b)) (sym all) (meets-ret u r.bytes m)))
 
-module _ {S X : Type 0} {u : Sense S X} (L : Lawful u) (a : ℕ) (v : X) (stands : Stands u a (at (u.heap v) a) v) where
-  -- of a record that was looked at before
-  pub copied_met : (n : ℕ) (m w : X) (got out : List ℕ) → u.does (Read a) v (at (u.heap v) a) m →
-      n ≡ length (at (u.heap v) a).bytes → u.does (Read a) m (at (u.heap m) a) w
-      → out ≡ take n (drop 0 (at (u.heap m) a).bytes) → got ≡ out →
-      Meets u {A = List ℕ} (Ret (at (u.heap v) a).bytes) v w (Ok got)
-  copied_met n m w got out d e f o g =
-      let r = at (u.heap v) a in
-      let first : m ≡ v = stands-again L r stands d in
-      let still : w ≡ v = again L a v m w r (at (u.heap m) a) d f ∙ first in
-      let all : got ≡ r.bytes = g ∙ (o ∙
-      (ap (λ z. take n (at (u.heap z) a).bytes) first ∙ (ap (λ k. take k r.bytes) e ∙ take-length r.bytes))) in
-      subst (λ z. Meets u (Ret r.bytes) v z (Ok got)) (sym still)
-      (subst (λ b. Meets u (Ret r.bytes) v v (Ok b)) (sym all) (meets-ret u r.bytes v))
+stands_asks : {S X : Type 0} (u : Sense S X) (a : ℕ) (v : X) (r : Rec) → Stands u a r v →
+    Asks {S = S} u.partial (Read a) (u.heap v)
+unfolding Asks
+stands_asks u a v r s = there-is (u.heap v) a r u.partial (λ r. Unit {0}) s.is tt
 
-  -- a look at it isn't refused
-  pub copied_never : (m : X) (e : Stop) → u.refuses (Read a) v e m → ⊥
-  copied_never m e d = L.sure a v e m stands.seen d
+-- the bytes of a record that was looked at before
+module _ {S X : Type 0} {u : Sense S X} (L : Lawful u) (a : ℕ) (v : X) (stands : Stands u a (at (u.heap v) a) v) where
+  pub bytes_safe : Safe u.partial (bytes_row {S = S} a) (u.heap v)
+  unfolding Safe bytes_row
+  bytes_safe = (stands_asks u a v (at (u.heap v) a) stands, λ r h e. tt)
+
+  pub bytes_again : (w : X) (res : Result (List ℕ) Stop) → Meets u (bytes_row {S = S} a) v w res →
+      Meets u (Ret (at (u.heap v) a).bytes) v w res
+  unfolding Meets Run Stopped bytes_row
+  bytes_again w (Ok got) m =
+      let answer : (got ≡ m.0.bytes) × (w ≡ m.1) = m.3 in
+      (answer.0 ∙ ap (λ r. r.bytes) (sym (read-at L a v m.1 m.0 m.2)), answer.1 ∙ stands-again L m.0 stands m.2)
+  bytes_again w (Err e) m = elim m [
+    | inl starved ↦ starved
+    | inr more ↦ elim more [
+      | inl refused ↦ absurd (L.sure a v e w stands.seen refused)
+      | inr d ↦ let end : (e ≡ OutOfMemory) × (w ≡ d.1) = d.3 in (end.0, end.1 ∙ stands-again L d.0 stands d.2)
+    ]
+  ]
 
 -- a value that is made of an answer
 module _ {S X A B : Type 0} (u : Sense S X) (x : A) (v w : X) where
@@ -67,11 +73,6 @@ pub done_starved : {S X A : Type 0} (u : Sense S X) (row : Row S A) (v w : X) (a
 unfolding Meets Run Stopped
 done_starved u (Ret x) v w a m = (refl, m.1)
 done_starved u (Do c k) v w a m = inr (inr (m.0, m.1, m.2, done_starved u (k m.0) m.1 w a m.3))
-
-pub stands_asks : {S X : Type 0} (u : Sense S X) (a : ℕ) (v : X) (r : Rec) → Stands u a r v →
-    Asks {S = S} u.partial (Read a) (u.heap v)
-unfolding Asks
-stands_asks u a v r s = there-is (u.heap v) a r u.partial (λ r. Unit {0}) s.is tt
 
 -- the bytes of a record whose kind was looked at
 module _ {S X : Type 0} {u : Sense S X} (L : Lawful u) (a : ℕ) (v m : X)
@@ -91,16 +92,17 @@ module _ {S X : Type 0} {u : Sense S X} (L : Lawful u) (a : ℕ) (v m : X)
   unfolding text_at
   text_leads safe live = leads-looked L looked refl text_in (λ r. Ret (Is r.bytes)) safe live str_in
 
-  pub text_met : Safe u.partial (text_at {S = S} a) (u.heap v) → IsLive u v → (w : X) (got : List ℕ) →
-      Meets u (Ret (at (u.heap m) a).bytes) m w (Ok got) → Meets u (text_at a) v w (Ok (Is got))
-  text_met safe live w got d = (text_leads safe live).finish w (Ok (Is got))
-      (answer_ok u (at (u.heap m) a).bytes m w Is got d)
-
-  pub text_stopped : Safe u.partial (text_at {S = S} a) (u.heap v) → IsLive u v → (w : X) (e : Stop) →
-      Meets u {A = List ℕ} (Ret (at (u.heap m) a).bytes) m w (Err e) → Meets u (text_at a) v w (Err e)
-  text_stopped safe live w e d = (text_leads safe live).finish w (Err e)
-      (answer_err u (at (u.heap m) a).bytes m w (Is (at (u.heap m) a).bytes) e d)
-
   -- it stands where it was looked at
   pub text_stands : Stands u a (at (u.heap m) a) m
   text_stands = subst (λ r. Stands u a r m) (sym (looked-record L looked refl)) (stands-read L (at (u.heap v) a) looked)
+
+  pub text_met : Safe u.partial (text_at {S = S} a) (u.heap v) → IsLive u v → (w : X) (got : List ℕ) →
+      Meets u (bytes_row {S = S} a) m w (Ok got) → Meets u (text_at a) v w (Ok (Is got))
+  text_met safe live w got d = (text_leads safe live).finish w (Ok (Is got))
+      (answer_ok u (at (u.heap m) a).bytes m w Is got (bytes_again L a m text_stands w (Ok got) d))
+
+  pub text_stopped : Safe u.partial (text_at {S = S} a) (u.heap v) → IsLive u v → (w : X) (e : Stop) →
+      Meets u {A = List ℕ} (bytes_row {S = S} a) m w (Err e) → Meets u (text_at a) v w (Err e)
+  text_stopped safe live w e d = (text_leads safe live).finish w (Err e)
+      (answer_err u (at (u.heap m) a).bytes m w (Is (at (u.heap m) a).bytes) e
+      (bytes_again L a m text_stands w (Err e) d))

@@ -2,16 +2,14 @@
 ghost use Rattle.std.specs.Prelude.{◌≡◌, MatchResult};
 ghost use Rattle.py_data.specs.declared.record.Got.TheVariants.{Raise};
 ghost use Rattle.py_data.specs.declared.stop.Stop.TheVariants.{OutOfMemory};
-ghost use Rattle.py_data.specs.Heap.{at};
-ghost use Rattle.py_data.specs.inner.Rest.{Stands};
-ghost use Rattle.py_data.specs.Row.{Ret};
 ghost use Rattle.py_data.specs.Sense.{Meets, Safe, IsLive};
 ghost use Rattle.py_data.specs.Fault.{argument_fault};
 ghost use Rattle.obj_str.specs.Methods as methods;
 
-use crate::text::SHORT;
+use crate::short::Text;
+use crate::text::bytes_of;
 use py_data::exception::{TYPE_ERROR, raise};
-use py_data::{Addr, Bytes, Got, Kind, Stop, Value, View};
+use py_data::{Addr, Got, Kind, Stop, Value, View};
 use std::alloc::Global;
 
 /// The answer where the arguments are too many or too few, or one is of another type: TypeError, `wrong arguments`.
@@ -41,40 +39,22 @@ pub fn both(args: &[Value]) -> Option<(Value, Value)>
     }
 }
 
-/// The bytes of a record that was looked at.
-#[tactic(auto, using(py_data::proofs::Rows::row_steps, crate::proofs::Copied::copied_never))]
-fn copied<S, V: View<S>>(alloc: Global, v: &mut V, a: Addr) -> Result<Bytes, Stop>
-    requires live { IsLive V.sense v.old }
-    requires stands { Stands V.sense a.0 (at (V.sense.heap v.old) a.0) v.old }
-    ensures { Meets V.sense (Ret (at (V.sense.heap v.old) a.0).bytes) v.old v.new result }
-{
-    let n = v.byte_len(a)?;
-    if n <= SHORT {
-        let mut room = [0; SHORT];
-        v.copy_bytes(a, 0, &mut room[..n])?;
-        return Ok(Bytes::from_slice(alloc, &room[..n])?);
-    }
-    let mut room = vec![in alloc; 0; n]?;
-    v.copy_bytes(a, 0, room.as_mut_slice())?;
-    Ok(Bytes::from_slice(alloc, room.as_slice())?)
-}
-
 /// The bytes of a record, which is a string.
 #[tactic(auto, using(py_data::proofs::Rows::row_steps), unfolding(crate::specs::Methods::text_at))]
-fn text_at<S, V: View<S>>(alloc: Global, v: &mut V, a: Addr) -> Result<Got<Bytes>, Stop>
+fn text_at<S, V: View<S>>(alloc: Global, v: &mut V, a: Addr) -> Result<Got<Text>, Stop>
     requires live { IsLive V.sense v.old }
     requires safe { Safe V.sense.partial (methods.text_at {S = S} a.0) (V.sense.heap v.old) }
     ensures { Meets V.sense (methods.text_at a.0) v.old v.new result }
 {
     match v.kind(a)? {
-        Kind::Str => Ok(Got::Is(copied(alloc, v, a)?)),
+        Kind::Str => Ok(Got::Is(bytes_of(alloc, v, a)?)),
         _ => wrong_arguments(alloc),
     }
 }
 
 /// The bytes of a value, which is a string. TypeError, `wrong arguments`, where it is none.
 #[tactic(auto, using(py_data::proofs::Rows::row_steps), unfolding(crate::specs::Methods::text_item))]
-pub fn text_item<S, V: View<S>>(alloc: Global, v: &mut V, x: Value) -> Result<Got<Bytes>, Stop>
+pub fn text_item<S, V: View<S>>(alloc: Global, v: &mut V, x: Value) -> Result<Got<Text>, Stop>
     requires live { IsLive V.sense v.old }
     requires safe { Safe V.sense.partial (methods.text_item {S = S} x) (V.sense.heap v.old) }
     ensures { Meets V.sense (methods.text_item x) v.old v.new result }

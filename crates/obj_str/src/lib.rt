@@ -10,6 +10,7 @@ mod laws;
 mod method;
 mod replace;
 mod search;
+mod short;
 mod splitting;
 #[cfg(test)]
 mod tests;
@@ -20,4 +21,5 @@ pub use laws::{
 };
 pub use method::str_method;
 pub use search::find;
+pub use short::Text;
 pub use text::{bytes_of, make_str};

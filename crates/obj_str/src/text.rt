@@ -7,18 +7,16 @@ ghost use Rattle.py_data.specs.Fault.{memory_fault};
 ghost use Rattle.py_data.specs.Looking.{bytes_row};
 ghost use Rattle.py_data.specs.Sense.{Meets, Safe, IsLive};
 
+use crate::short::{SHORT, Text};
 use py_data::exception::MEMORY_ERROR;
 use py_data::{
     Addr, Bytes, Fault, Got, Kind, LENGTH_LIMIT, Record, Stop, Value, Values, View, With,
 };
 use std::alloc::Global;
 
-/// The most bytes of a string that is copied by way of the stack, as names are.
-pub(crate) const SHORT: usize = 32;
-
 /// The bytes of a record; nothing of one that isn't a string. One look at the record.
 #[tactic(auto, using(py_data::proofs::Rows::row_steps), unfolding(py_data::specs::Looking::bytes_row))]
-pub fn bytes_of<S, V: View<S>>(alloc: Global, v: &mut V, a: Addr) -> Result<Bytes, Stop>
+pub fn bytes_of<S, V: View<S>>(alloc: Global, v: &mut V, a: Addr) -> Result<Text, Stop>
     requires live { IsLive V.sense v.old }
     requires safe { Safe V.sense.partial (bytes_row {S = S} a.0) (V.sense.heap v.old) }
     ensures { Meets V.sense (bytes_row a.0) v.old v.new result }
@@ -27,11 +25,11 @@ pub fn bytes_of<S, V: View<S>>(alloc: Global, v: &mut V, a: Addr) -> Result<Byte
     if n <= SHORT {
         let mut room = [0; SHORT];
         v.copy_bytes(a, 0, &mut room[..n])?;
-        return Ok(Bytes::from_slice(alloc, &room[..n])?);
+        return Ok(Text::short(alloc, room, n));
     }
     let mut room = vec![in alloc; 0; n]?;
     v.copy_bytes(a, 0, room.as_mut_slice())?;
-    Ok(Bytes::from_slice(alloc, room.as_slice())?)
+    Ok(Text::long(room))
 }
 
 /// The answer of an operation that would make a record longer than one may be: MemoryError, without a text.

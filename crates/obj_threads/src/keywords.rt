@@ -5,8 +5,8 @@ ghost use Rattle.py_data.specs.Sense.{Meets, Safe, IsLive};
 ghost use Rattle.obj_threads.specs.Keywords as keywords;
 
 use crate::argument::wrong_arguments;
-use obj_str::bytes_of;
-use py_data::{Addr, Bytes, Got, Stop, Value, View};
+use obj_str::{Text, bytes_of};
+use py_data::{Addr, Got, Stop, Value, View};
 use std::alloc::Global;
 
 /// The values of the keywords that were given.
@@ -69,14 +69,14 @@ fn value_at(keys: &[Value], i: usize) -> Value
 
 /// The bytes of a name.
 #[tactic(auto, using(py_data::proofs::Rows::row_steps), unfolding(crate::specs::Keywords::name_row))]
-fn name_of<S, V: View<S>>(alloc: Global, v: &mut V, name: Value) -> Result<Bytes, Stop>
+fn name_of<S, V: View<S>>(alloc: Global, v: &mut V, name: Value) -> Result<Text, Stop>
     requires live { IsLive V.sense v.old }
     requires safe { Safe V.sense.partial (keywords.name_row {S = S} name) (V.sense.heap v.old) }
     ensures { Meets V.sense (keywords.name_row name) v.old v.new result }
 {
     match name {
         Value::Ref(a) => bytes_of(alloc, v, a),
-        _ => Ok(Bytes::new(alloc)),
+        _ => Ok(Text::from_slice(alloc, &[])?),
     }
 }
 

@@ -12,7 +12,7 @@ ghost use Rattle.py_frames.specs.PrintRows.{class_name_row, dying_row, ends_line
 use crate::functions::ended_row;
 use crate::raising::{pass, place_in, raise_row};
 use obj_class::text;
-use obj_str::bytes_of;
+use obj_str::{Text, bytes_of};
 use py_data::{Addr, Bytes, Got, NoMemory, Out, Stop, Value, View, look};
 use py_frames::{Dying, Next};
 use py_text::print_int;
@@ -164,7 +164,7 @@ fn error_line(
 
 /// The name of a class.
 #[tactic(auto, using(py_data::proofs::Rows::row_steps, py_data::proofs::Steps::call_steps), unfolding(py_frames::specs::PrintRows::name_of_class))]
-fn name_of_class<S, V: View<S>>(alloc: Global, v: &mut V, c: Addr) -> Result<Bytes, Stop>
+fn name_of_class<S, V: View<S>>(alloc: Global, v: &mut V, c: Addr) -> Result<Text, Stop>
     requires live { IsLive V.sense v.old }
     requires safe { Safe V.sense.partial (name_of_class {S = S} c.0) (V.sense.heap v.old) }
     ensures { Meets V.sense (name_of_class c.0) v.old v.new result }
@@ -175,7 +175,7 @@ fn name_of_class<S, V: View<S>>(alloc: Global, v: &mut V, c: Addr) -> Result<Byt
 
 /// The name of the class of an instance.
 #[tactic(auto, using(py_data::proofs::Rows::row_steps, py_data::proofs::Steps::call_steps), unfolding(py_frames::specs::PrintRows::class_name_row))]
-fn class_name_row<S, V: View<S>>(alloc: Global, v: &mut V, a: Addr) -> Result<Bytes, Stop>
+fn class_name_row<S, V: View<S>>(alloc: Global, v: &mut V, a: Addr) -> Result<Text, Stop>
     requires live { IsLive V.sense v.old }
     requires safe { Safe V.sense.partial (class_name_row {S = S} a.0) (V.sense.heap v.old) }
     ensures { Meets V.sense (class_name_row a.0) v.old v.new result }

@@ -345,6 +345,7 @@ pub fn bytes_in<S, V: View<S>>(
     requires at { IsStrAt (V.sense.heap v.old) a.0 }
     ensures { IfOk result (λ _. Good V.sense roots.0 stack.now v.new) }
 {
-    let bytes = bytes_of(alloc, v, a)?;
+    let text = bytes_of(alloc, v, a)?;
+    let bytes = text.to_bytes(alloc)?;
     Ok(bytes)
 }

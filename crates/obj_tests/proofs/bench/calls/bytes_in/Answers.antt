@@ -8,4 +8,4 @@ bytes_of-requires-clause-safe g c = look_safe _ (bytes_row c.args.a.0) c.require
 
 pub returns : goal.returns
 returns g c = look_done _ (bytes_row c.args.a.0) c.requires.good (bytes_look c.requires.good _ _ c.requires.at)
-    g.met.V.View.lawful _ _ c.in_ok-bytes.ensures
+    g.met.V.View.lawful _ _ c.in_ok-text.ensures
