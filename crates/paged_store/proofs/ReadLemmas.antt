@@ -196,6 +196,15 @@ byte_within w reserved a i r h =
     let fits : (count_by w a + 7) / 8 ≤ body_size w a = text_fits w a (has_text w a i h) r.formed in
     omega (arith, fits, r.body, byte_counted w a i h)
 
+pub text_ends : (w : Words) (a n : ℕ) → Formed w a → n ≤ length (decode w a).bytes → n ≤ 2 ^ 24
+text_ends w a zero f h = omega arith
+text_ends w a (suc n) f h = omega (arith, text_short w a n f (omega (arith, h)))
+
+-- the words up to a byte's end stand within what is reserved
+pub text_within : (w : Words) (reserved a n : ℕ) → Stands w reserved a → n ≤ length (decode w a).bytes → 0 < n →
+    body_by w a + (n + 7) / 8 ≤ reserved
+text_within w reserved a n r h some = omega (arith, some, byte_within w reserved a (n - 1) r (omega (arith, h, some)))
+
 -- a byte of a word, as std has it
 pub byte_of_word : (n m : ℕ) → m < 8 → get_or (to_le_bytes w64 n) m 0 ≡ n / 256 ^ m % 256
 byte_of_word n zero h = omega arith

@@ -289,7 +289,8 @@ pub fn byte(pages: &Pages, seen: Seen, a: u32, i: usize) -> u8
     bytes[i % 8]
 }
 
-/// Copies as many of its bytes as `out` holds, from a place on. It reads each word once.
+/// Copies as many of its bytes as `out` holds, from a place on. It reads each word once, and finds them at once
+/// where they lie in one page with the words from the body's start on.
 pub fn copy_bytes(pages: &Pages, seen: Seen, a: u32, from: usize, out: &mut [u8])
     requires there { CanRead (table_of pages.now) seen a }
     requires bytes { from + length out.old ≤ length (record_seen (table_of pages.now) seen a).bytes }
@@ -297,10 +298,11 @@ pub fn copy_bytes(pages: &Pages, seen: Seen, a: u32, from: usize, out: &mut [u8]
 {
     pages.known();
     let body = body(pages, seen, a);
+    let words = run(pages, seen, body, (from + out.len() + 7) / 8);
     let mut done = 0;
     'words: while done < out.len() {
         let i = from + done;
-        let bytes = word(pages, seen, (body + i / 8) as u32).to_le_bytes();
+        let bytes = word_in(pages, seen, words, body, i / 8).to_le_bytes();
         let n = (8 - i % 8).min(out.len() - done);
         out[done..done + n].copy_from_slice(&bytes[i % 8..i % 8 + n]);
         done += n;

@@ -1,4 +1,4 @@
-use Rattle.std.proofs.Common.{◌+◌, ◌≤◌, ◌∙◌, arith}
+use Rattle.std.proofs.Common.{◌+◌, ◌≤◌, arith}
 use Rattle.page_table.specs.Lists.{table_of, word_at}
 use Rattle.paged_store.proofs.ReadLemmas.{value_span, body_even, value_found, value_in_run}
 use Rattle.paged_store.proofs.sight.three_values.Goals as goal
