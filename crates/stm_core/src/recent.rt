@@ -49,12 +49,17 @@ impl Recent {
         }
     }
 
-    /// A record was looked at: its address is the first of its set from now on, and the last one of the set is let go
-    /// where there are too many. It takes no memory.
+    /// A record was looked at, and is noted where records are kept. It takes no memory.
     pub fn note(&self, a: Addr) {
-        if self.places.is_empty() {
-            return;
+        if !self.places.is_empty() {
+            self.put_first(a);
         }
+    }
+
+    /// An address is the first of its set from now on, and the last one of the set is let go where there are too many.
+    /// It is never inlined, so that a look on one segment, which keeps none, is short.
+    #[inline(never)]
+    fn put_first(&self, a: Addr) {
         let first = (a.0.wrapping_mul(SPREAD) / SET_SHARE) as usize * SET_LIMIT;
         let mut next = a;
         'places: for i in first..first + SET_LIMIT {

@@ -90,6 +90,8 @@ impl<'a, T: Drop, S: SegStore, I, O, E> SegView<'a, T, S, I, O, E> {
     }
 
     /// Keeps why a call is refused, and says it in a word. A call for which it has a cause is refused so.
+    #[cold]
+    #[inline(never)]
     pub fn fail(&mut self, halt: Halt) -> Stop
         ensures same { result ≡ stop_of halt }
         ensures word { result ≡ stop_of self.new.last.halt }

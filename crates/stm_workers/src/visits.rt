@@ -40,13 +40,19 @@ impl Finding {
 /// The most steps of one visit.
 const VISIT_STEPS: u64 = 100;
 
+/// The same on one segment, where no other worker waits for the heap.
+const ALONE_STEPS: u64 = 1_000;
+
 /// A piece of fewer steps isn't worth the copies that it takes.
 const WORTHY_STEPS: u64 = 16;
 
-/// How many steps a visit does where the piece that was brought to it did so many. After a piece that went far it is
-/// one step, for which the piece ended; otherwise there are as many as without pieces, since the records that a piece
-/// wants are met so.
-fn steps_after(piece: u64) -> u64 {
+/// How many steps a visit does where the piece that was brought to it did so many, and whether there is one segment
+/// alone. After a piece that went far it is one step, for which the piece ended; otherwise there are as many as without
+/// pieces, since the records that a piece wants are met so.
+fn steps_after(alone: bool, piece: u64) -> u64 {
+    if alone {
+        return ALONE_STEPS;
+    }
     if piece < WORTHY_STEPS { VISIT_STEPS } else { 1 }
 }
 
@@ -399,14 +405,15 @@ fn go_round<C: Client, S: SegStore, I: Source, O: Sink, E: Sink>(
     if has_ended(core) {
         return Finding::Ended;
     }
+    let alone = core.store().segments() == 1;
     let steps = take_in(core, k, piece);
-    found(work(core, k, steps_after(steps)))
+    found(work(core, k, steps_after(alone, steps)))
 }
 
 /// One visit of the worker of segment `k` without pieces, and what it found.
 ///
-/// Where nothing is in hand a transaction of the next ready thread begins. Then at most `VISIT_STEPS` steps are done,
-/// up to the length. What has as many steps as the length, or waits, or has ended, is committed; what is to print or
+/// Where nothing is in hand a transaction of the next ready thread begins. Then at most `VISIT_STEPS` steps are done, on
+/// one segment `ALONE_STEPS`, up to the length. What has as many steps as the length, or waits, or has ended, is committed; what is to print or
 /// read becomes solo, or is committed where another one is solo.
 pub fn visit<C: Client, S: SegStore, I: Source, O: Sink, E: Sink>(
     core: &mut Core<'_, C, S, I, O, E>,

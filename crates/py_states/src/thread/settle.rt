@@ -163,6 +163,7 @@ impl ThreadState {
     /// What an instruction that takes `n` operands leads to, done in time of what it changes; only an exception that
     /// no block takes, once in the life of a thread, looks through all frames. At want of memory the state stays as
     /// it is, and so it does where it has no frame.
+    #[inline(always)]
     pub fn settle(&mut self, program: &Program, n: usize, next: Next) -> Result<Outcome, NoMemory>
         ensures ok { IfOk result (λ o. Settles (settled_in program.now self.old n next self.old.frames) o self.new) }
         ensures err { OnErr result (self.new ≡ self.old) }
