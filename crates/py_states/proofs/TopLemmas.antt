@@ -1,6 +1,6 @@
 -- What changes of the innermost frame come to together.
 use Rattle.std.proofs.Common.{arith, ◌≡◌, ◌≢◌, ℕ, suc, ◌+◌, ◌-◌, ◌≤◌, true, List, [], ◌∷◌, ◌++◌, length, take, drop, Option, Some, None, refl, sym, ap, ◌∙◌, slice_get}
-use Rattle.std.proofs.lemmas.List.{take_all, drop-drop}
+use Rattle.std.proofs.lemmas.List.{append_assoc, take_all, drop-drop}
 use Rattle.py_data.specs.declared.value.Value.{Value}
 use Rattle.py_frames.specs.declared.state.Block.{Block}
 use Rattle.py_frames.specs.declared.state.Frame.{Frame}
@@ -21,6 +21,16 @@ pushed_is k x [] e = refl
 pushed_is k x (f ∷ fs) e =
     let whole : take k f.stack ≡ f.stack = take_all k f.stack (omega (arith, e)) in
     let with : List Value → List Frame = λ vs. record f { stack = vs ++ x ∷ [] } ∷ fs in
+    ap with whole
+
+-- two values
+pub both_is : (n place : ℕ) (x y : Value) (fs : List Frame) →
+    on_top (pushed y) (on_top (advanced n (x ∷ []) place) fs) ≡ on_top (advanced n (x ∷ y ∷ []) place) fs
+both_is n place x y [] = refl
+both_is n place x y (f ∷ fs) =
+    let below : List Value = take (length f.stack - n) f.stack in
+    let whole : (below ++ x ∷ []) ++ y ∷ [] ≡ below ++ x ∷ y ∷ [] = simp append_assoc in
+    let with : List Value → List Frame = λ vs. record f { pc = place; stack = vs } ∷ fs in
     ap with whole
 
 -- ---- an exception is taken

@@ -249,7 +249,8 @@ impl Frames {
     #[tactic(auto, using(crate::proofs::LaidLemmas::advanced_laid))]
     pub fn give(&mut self, n: usize, x: Value, pc: u32)
         requires { 0 < self.old.more_values }
-        ensures { self.new.frames ≡ on_top (advanced n (x ∷ []) pc) self.old.frames }
+        ensures frames { self.new.frames ≡ on_top (advanced n (x ∷ []) pc) self.old.frames }
+        ensures values { self.old.more_values ≤ self.new.more_values + 1 }
     {
         if let Some(head) = self.heads.top() {
             let values = self.values.len();

@@ -48,6 +48,19 @@ impl Frames {
         Ok(())
     }
 
+    /// The same with two values, the second on top.
+    #[inline(never)]
+    #[tactic(auto, using(crate::proofs::TopLemmas::both_is))]
+    fn advance_by_two(&mut self, n: usize, x: Value, y: Value, place: u32) -> Result<(), NoMemory>
+        ensures ok { OnOk result (self.new.frames ≡ on_top (advanced n (x ∷ y ∷ []) place) self.old.frames) }
+        ensures err { OnErr result (self.new.frames ≡ self.old.frames) }
+    {
+        self.make_room_for_values(2)?;
+        self.give(n, x, place);
+        self.push_value(y);
+        Ok(())
+    }
+
     /// The same with several values.
     #[inline(never)]
     #[tactic(auto, using(crate::proofs::TopLemmas::go_on_is))]
@@ -78,6 +91,7 @@ impl Frames {
                 Ok(())
             }
             [x] => self.give_beyond(n, *x, place),
+            [x, y] => self.advance_by_two(n, *x, *y, place),
             _ => self.advance_by_more(n, ys, place),
         }
     }
