@@ -203,6 +203,7 @@ fn truth(s: &mut ThreadState, op: u8) -> bool
 
 /// Does an instruction of a thread that has a frame, if it asks nothing of the heap and raises nothing: whether it was
 /// done.
+#[inline(always)]
 pub fn do_at_once(s: &mut ThreadState, i: Instr) -> bool
     ensures { IsAtOnce s.old i result s.new }
 {

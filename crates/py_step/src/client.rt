@@ -104,6 +104,7 @@ impl Client for PyClient {
         }
     }
 
+    #[inline(always)]
     fn step_pure(&self, s: &mut ThreadState) -> bool {
         step_at_once(self.program.program(), s)
     }

@@ -8,6 +8,7 @@ use py_instrs::keys_at;
 use py_states::ThreadState;
 
 /// How many operands an instruction takes, in the innermost frame of a thread.
+#[inline(always)]
 pub fn pops(p: &Program, s: &ThreadState, i: Instr) -> usize
     ensures { result ≡ state.pops p.now (innermost s.now.frames) i }
 {

@@ -70,6 +70,7 @@ fn go_by_row<V: View<ThreadState>>(
 
 /// The step of a thread that lives, if it is of an instruction that asks nothing of the heap and raises nothing:
 /// whether it was done.
+#[inline(always)]
 pub fn step_at_once(p: &Program, s: &mut ThreadState) -> bool
     requires lives { state.life_of s.old ≡ Lives }
     ensures done { result ≡ true → steps.step_row p.now s.old ≡ Ret (Done, s.new) }
