@@ -57,7 +57,7 @@ fn push_others(
     out: &mut Values,
     p: &Program,
     names: &[Bytes],
-    g: &Passed<'_>,
+    g: &Passed<'_, '_>,
     defaults: &[Value],
 ) -> Result<(), NoMemory>
     ensures { OnOk result (out.new ≡ out.old ++ binding.filled names.now (map (state.root_name p.now) g.now.names)
@@ -75,7 +75,7 @@ fn bound_slots(
     alloc: Global,
     p: &Program,
     n: u32,
-    g: &Passed<'_>,
+    g: &Passed<'_, '_>,
     count: usize,
     defaults: &[Value],
 ) -> Result<Values, NoMemory>
@@ -120,7 +120,7 @@ fn entered(alloc: Global, n: u32, slots: Values) -> Frame
 fn bound_to(
     alloc: Global,
     p: &Program,
-    g: &Passed<'_>,
+    g: &Passed<'_, '_>,
     n: u32,
     defaults: &[Value],
 ) -> Result<Got<Frame>, NoMemory>
@@ -141,7 +141,7 @@ fn defaulted_row<S, V: View<S>>(
     alloc: Global,
     v: &mut V,
     p: &Program,
-    g: &Passed<'_>,
+    g: &Passed<'_, '_>,
     n: u32,
     d: Addr,
 ) -> Result<Got<Frame>, Stop>
@@ -159,7 +159,7 @@ fn numbered_row<S, V: View<S>>(
     alloc: Global,
     v: &mut V,
     p: &Program,
-    g: &Passed<'_>,
+    g: &Passed<'_, '_>,
     f: Addr,
     n: u32,
 ) -> Result<Got<Frame>, Stop>
@@ -177,7 +177,7 @@ fn passed_row<S, V: View<S>>(
     alloc: Global,
     v: &mut V,
     p: &Program,
-    g: &Passed<'_>,
+    g: &Passed<'_, '_>,
     f: Addr,
 ) -> Result<Got<Frame>, Stop>
     requires live { IsLive V.sense v.old }

@@ -1,5 +1,5 @@
 //! Items and slices.
-ghost use Rattle.std.specs.Prelude.{◌≡◌, MatchResult};
+ghost use Rattle.std.specs.Prelude.{◌≡◌, length, MatchResult};
 ghost use Rattle.py_data.specs.declared.record.Got.TheVariants.{Is};
 ghost use Rattle.py_data.specs.declared.stop.Stop.TheVariants.{OutOfMemory};
 ghost use Rattle.py_data.specs.declared.value.Value.TheVariants.{Ref};
@@ -88,6 +88,17 @@ fn byte_row<S, V: View<S>>(
     }
 }
 
+/// The byte of a text at an index.
+#[tactic(auto, using(py_data::proofs::Rows::row_steps))]
+fn byte_in<S, V: View<S>>(alloc: Global, v: &mut V, text: &[u8], i: i64) -> Result<Got<Value>, Stop>
+    requires live { IsLive V.sense v.old }
+    requires safe { Safe V.sense.partial (rows.byte_row {S = S} text.now (seq.place i (length text.now)))
+        (V.sense.heap v.old) }
+    ensures { Meets V.sense (rows.byte_row text.now (seq.place i (length text.now))) v.old v.new result }
+{
+    byte_row(alloc, v, text, place_of(i, text.len()))
+}
+
 /// The byte of a string at an index.
 #[tactic(auto, using(py_data::proofs::Rows::row_steps, py_data::proofs::Steps::call_steps), unfolding(py_frames::specs::ItemRows::byte_item_row))]
 fn byte_item_row<S, V: View<S>>(
@@ -101,8 +112,7 @@ fn byte_item_row<S, V: View<S>>(
     ensures { Meets V.sense (rows.byte_item_row a.0 i) v.old v.new result }
 {
     let text = bytes_of(alloc, v, a)?;
-    let text = text.as_slice();
-    byte_row(alloc, v, text, place_of(i, text.len()))
+    byte_in(alloc, v, text.as_slice(), i)
 }
 
 /// The byte of a string, where the index is a number.

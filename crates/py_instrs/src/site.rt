@@ -25,14 +25,14 @@ impl<'a> Model for Given<'a> {
 
 /// What a call passes on to a function: what it gives, where other arguments may stand before all that it has.
 #[derive(Drop)]
-pub struct Passed<'a> {
-    pub before: &'a [Value],
+pub struct Passed<'b, 'a> {
+    pub before: &'b [Value],
     pub args: &'a [Value],
     pub names: &'a [u32],
     pub values: &'a [Value],
 }
 
-impl<'a> Model for Passed<'a> {
+impl<'b, 'a> Model for Passed<'b, 'a> {
     ghost use Rattle.std.specs.Prelude.{◌++◌};
     ghost use Rattle.py_frames.specs.Binding as binding;
 
@@ -45,9 +45,9 @@ impl<'a> Model for Passed<'a> {
     } };
 }
 
-impl<'a> Passed<'a> {
+impl<'b, 'a> Passed<'b, 'a> {
     /// What a call gives, with these arguments before all others.
-    pub fn new(before: &'a [Value], g: &Given<'a>) -> Passed<'a>
+    pub fn new(before: &'b [Value], g: &Given<'a>) -> Passed<'b, 'a>
         ensures { result ≡ record g.now { args = before.now ++ g.now.args } }
     {
         Passed {

@@ -151,16 +151,28 @@ fn branch(s: &mut ThreadState, place: u32) -> bool
     }
 }
 
-/// RETURN from a function that another one called: of a value, where its frame makes nothing, or of None from one that
-/// makes an instance.
+/// RETURN of None from an `__init__` that another function called: the instance is what it gives.
+fn leave_init(s: &mut ThreadState) -> bool
+    ensures { IsAtOnce s.old Return result s.new }
+{
+    match s.made() {
+        Value::Unset => false,
+        made => match (s.operand(1, 0), s.names()) {
+            (Value::None, None) => s.returns(1, made),
+            _ => false,
+        },
+    }
+}
+
+/// RETURN from a function that another one called: of a value, where its frame makes nothing, or of None from an
+/// `__init__`.
 fn leave(s: &mut ThreadState) -> bool
     ensures { IsAtOnce s.old Return result s.new }
 {
     match (s.operand(1, 0), s.made(), s.names()) {
         (Value::Unset, _, _) => false,
         (x, Value::Unset, None) => s.returns(1, x),
-        (Value::None, made, None) => s.returns(1, made),
-        _ => false,
+        _ => leave_init(s),
     }
 }
 
