@@ -13,8 +13,8 @@ byte_in-requires-clause-safe g c =
     let u = g.V.View.sense in
     let i : to_z w64 (of_z w64 c.args.i) ≡ c.args.i = to_z-of_z w64 c.args.i c.ranges.i in
     let here = safe-then u g.met.V.View.lawful (bytes_row c.args.a.0)
-        (λ t. byte_row {S = g.row.S.Denot} t (place c.args.i (length t))) c.args.v.now c.bytes_of.new.v
-        c.in_ok-text.text c.requires.safe c.in_ok-text.ensures in
+    (λ t. byte_row {S = g.row.S.Denot} t (place c.args.i (length t))) c.args.v.now c.bytes_of.new.v
+    c.in_ok-text.text c.requires.safe c.in_ok-text.ensures in
     subst (λ z. Safe u.partial (byte_row {S = g.row.S.Denot} c.as_slice.result.now
     (place z (length c.as_slice.result.now))) (u.heap c.bytes_of.new.v)) (sym i)
     (subst (λ t. Safe u.partial (byte_row {S = g.row.S.Denot} t (place c.args.i (length t)))
