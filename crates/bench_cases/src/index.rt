@@ -1,5 +1,5 @@
-//! How many slots of an index are looked at where keys of one kind are entered one after another: the hash and the home of
-//! each are those of `dict_index`.
+//! How many slots of an index are looked at where keys of one kind are entered one after another: the hash and the home
+//! of each are those of `dict_index`.
 ghost use Rattle.std.specs.Prelude.{◌≡◌, ◌^◌, ◌<◌, ◌≤◌, length, IfOk};
 
 use dict_index::hash::{hash_int, hash_length, mix};
@@ -63,8 +63,8 @@ fn enter(slots: &mut [bool], home: usize) -> u32
     0
 }
 
-/// How many slots are looked at where so many keys of a kind are entered in an index of twice as many slots. It answers None
-/// where there is no such kind.
+/// How many slots are looked at where so many keys of a kind are entered in an index of twice as many slots. It answers
+/// None where there is no such kind.
 pub(crate) fn probes(alloc: Global, kind: &str, count: u32) -> Option<Result<i64, NoMemory>>
     requires { count ≤ 524288 }
 {

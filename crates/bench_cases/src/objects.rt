@@ -1,5 +1,5 @@
-//! What is measured of operators, a method and a text, over any view of a whole heap that is in order. The operands are the
-//! values of a stack.
+//! What is measured of operators, a method and a text, over any view of a whole heap that is in order. The operands are
+//! the values of a stack.
 ghost use Rattle.std.specs.Prelude.{◌≡◌, ◌+◌, ◌*◌, ◌<◌, ◌≤◌, ℕ, length, IfOk, IfSome, []};
 ghost use Rattle.py_data.specs.declared.value.Value.TheVariants.{Ref};
 ghost use Rattle.py_data.specs.declared.record.TheConstants.{LENGTH_LIMIT};

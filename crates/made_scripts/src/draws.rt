@@ -4,8 +4,8 @@ ghost use Rattle.std.specs.Prelude.{◌<◌};
 /// How many numbers are gone by at first, so that starts that are near each other lead away from each other.
 const PASSED: u32 = 8;
 
-/// A xorshift of 64 bits: a draw shifts its number by 13 to the left, by 7 to the right and by 17 to the left, each time into itself
-/// by exclusive or. It stays above 0, and goes through all other numbers of 64 bits.
+/// A xorshift of 64 bits: a draw shifts its number by 13 to the left, by 7 to the right and by 17 to the left, each
+/// time into itself by exclusive or. It stays above 0, and goes through all other numbers of 64 bits.
 #[derive(Clone, Copy, Debug)]
 pub(crate) struct Draws {
     state: u64,

@@ -97,8 +97,8 @@ impl Writer {
         }
     }
 
-    /// Writes a form, with forms in its holes that are drawn into one another as many times as the level says, and fewer of
-    /// expressions.
+    /// Writes a form, with forms in its holes that are drawn into one another as many times as the level says, and
+    /// fewer of expressions.
     pub(crate) fn fill(&mut self, form: &str, level: u8) -> Result<(), AllocError> {
         let margin = self.margin;
         let mut is_hole = false;

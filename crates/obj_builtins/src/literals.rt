@@ -187,8 +187,8 @@ fn stripped_number(alloc: Global, text: &[u8], stripped: &[u8]) -> Result<Got<Va
     }
 }
 
-/// The number that a text writes: blanks, a sign or none, one digit or more, blanks. ValueError, with the text's `repr`,
-/// for any other; OverflowError where 64 bits don't hold the number.
+/// The number that a text writes: blanks, a sign or none, one digit or more, blanks. ValueError, with the text's
+/// `repr`, for any other; OverflowError where 64 bits don't hold the number.
 pub fn text_number(alloc: Global, text: &[u8]) -> Result<Got<Value>, Stop>
     ensures { MatchResult result (λ g. g ≡ literals.text_number text.now) (λ e. e ≡ OutOfMemory) }
 {

@@ -146,9 +146,9 @@ fn pop<S, V: View<S>>(
     }
 }
 
-/// The method of a number, of the dictionary at an address: `get`, `keys`, `values`, `items`, `has_key` or `pop`. TypeError,
-/// `wrong arguments`, for another count of arguments, and then `unhashable` for what can't be a key. TypeError, `unsupported
-/// operand`, for any other number.
+/// The method of a number, of the dictionary at an address: `get`, `keys`, `values`, `items`, `has_key` or `pop`.
+/// TypeError, `wrong arguments`, for another count of arguments, and then `unhashable` for what can't be a key.
+/// TypeError, `unsupported operand`, for any other number.
 #[tactic(auto, using(py_data::proofs::Rows::row_steps), unfolding(crate::specs::Dicts::dict_method_row))]
 pub fn dict_method<S, V: View<S>>(
     alloc: Global,
