@@ -1,3 +1,3 @@
-pub mod Pairs
-pub mod Holding
-pub mod Ordered
+mod Pairs
+mod Holding
+mod Ordered

@@ -1,5 +1,5 @@
-//! `bench_cases`: does a measure so many times, for each pair of words, and prints a sum asked of the heap then. It tells no
-//! time: `bench/README.md` says how it is run, and what was measured.
+//! `bench_cases`: does a measure so many times, for each pair of words, and prints a sum asked of the heap then. It
+//! tells no time: `bench/README.md` says how it is run, and what was measured.
 #![tactic(auto)]
 
 mod heap;

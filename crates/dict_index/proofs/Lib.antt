@@ -1,6 +1,6 @@
 pub mod Circle
 pub mod Put
-pub mod Count
+mod Count
 pub mod Walking
 pub mod Homes
 pub mod Entering
@@ -8,7 +8,7 @@ pub mod Closing
 pub mod Lowering
 pub mod Frame
 pub mod Right
-pub mod Classes
+mod Classes
 pub mod Pairs
 pub mod Gone
 pub mod Kept

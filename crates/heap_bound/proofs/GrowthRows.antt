@@ -308,7 +308,8 @@ goes most l = (
   refl,
 )
 
--- A moment after a move: the second step is about to end. The Cell, which the segment sees and the image hasn't, counts.
+-- A moment after a move: the second step is about to end. The Cell, which the segment sees and the image hasn't,
+-- counts.
 later_moment : (most : ℕ) → 2 ≤ most → Moment one_cell most 0 cell_core
 unfolding Upto
 later_moment most l = record {

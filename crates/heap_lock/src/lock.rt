@@ -166,7 +166,10 @@ impl<T: Job> HeapLock<T> {
     pub fn join(&self, seat: &mut Seat<T>, other: Seat<T>)
         requires lock { (seat.old.lock ≡ self.now.id) × (other.lock ≡ self.now.id) }
         requires free { (seat.old.holds ≡ false) × (other.holds ≡ false) }
-        ensures seat { seat.new ≡ record seat.old { parts = merged other.parts seat.old.parts; seen = seat.old.seen ++ other.seen } }
+        ensures seat { seat.new ≡ record seat.old {
+          parts = merged other.parts seat.old.parts;
+          seen = seat.old.seen ++ other.seen;
+        } }
         ensures count { length seat.new.parts ≡ length seat.old.parts + length other.parts }
     {
         self.table
@@ -179,7 +182,8 @@ impl<T: Job> HeapLock<T> {
         requires lock { seat.lock ≡ self.id }
         requires free { seat.holds ≡ false }
         requires all { HasAllParts self.parts seat.parts }
-        ensures { (x : T) × (result ≡ Some x) × T.good x × (seat.job ≡ Some (T.job x)) × All (λ y. T.grows y x) seat.seen }
+        ensures { (x : T) × (result ≡ Some x) × T.good x × (seat.job ≡ Some (T.job x)) ×
+            All (λ y. T.grows y x) seat.seen }
     {
         let HeapLock { table } = self;
         let mut closed = table.close_with(seat.into_inner());

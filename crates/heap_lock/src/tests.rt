@@ -89,7 +89,8 @@ fn add_in_threads<T: Adding + Send, Rt: Threads + Wait + Sync>(
     let (mut seat, other) = join(
         rt,
         move || -> Seat<T>
-            requires { IsSync Rt.row × (seat.lock ≡ lock.now.id) × (seat.holds ≡ false) × (0 < rest) × (length seat.parts ≡ rest) }
+            requires { IsSync Rt.row × (seat.lock ≡ lock.now.id) × (seat.holds ≡ false) × (0 < rest) ×
+                (length seat.parts ≡ rest) }
             ensures same { result ≡ record seat { seen = result.seen; taken = result.taken } }
             ensures seen { (x : T) → All (λ y. T.grows y x) result.seen → All (λ y. T.grows y x) seat.seen }
         { add_in_threads(rt, lock, seat, rest, times) },

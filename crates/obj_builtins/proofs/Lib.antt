@@ -1,17 +1,17 @@
-pub mod Digits
-pub mod Loops
-pub mod Numbered
-pub mod FormLooks
-pub mod LengthLooks
-pub mod KindLooks
-pub mod Told
+mod Digits
+mod Loops
+mod Numbered
+mod FormLooks
+mod LengthLooks
+mod KindLooks
+mod Told
 pub mod Holding
 pub mod SteadyRows
-pub mod RangeAnswers
-pub mod SumAnswers
-pub mod ReadAnswers
-pub mod BestAnswers
-pub mod ClassAnswers
+mod RangeAnswers
+mod SumAnswers
+mod ReadAnswers
+mod BestAnswers
+mod ClassAnswers
 mod InputSteps
 mod InputDone
 mod InputHolds

@@ -29,8 +29,8 @@ pub fn call_quiet_law<S>()
     quiet_law::<S>();
 }
 
-/// `raw_input` takes the next line of the input and answers it without its newline. A prompt is written before, once and
-/// as it is, and the output isn't in the middle of a line then.
+/// `raw_input` takes the next line of the input and answers it without its newline. A prompt is written before, once
+/// and as it is, and the output isn't in the middle of a line then.
 pub fn input_law<S>()
     ensures { InputLaw S }
 {}

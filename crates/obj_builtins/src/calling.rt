@@ -181,7 +181,8 @@ fn method_keyed<S, V: View<S>>(
     kind: Kind,
 ) -> Result<Got<Answer>, Stop>
     requires live { IsLive V.sense v.old }
-    requires safe { Safe V.sense.partial (calls.method_keyed {S = S} m a.0 args.now keys.now kind) (V.sense.heap v.old) }
+    requires safe { Safe V.sense.partial (calls.method_keyed {S = S} m a.0 args.now keys.now kind)
+        (V.sense.heap v.old) }
     ensures { Meets V.sense (calls.method_keyed m a.0 args.now keys.now kind) v.old v.new result }
 {
     if keys.is_empty() {
@@ -279,7 +280,8 @@ fn function_keyed<S, V: View<S>>(
     keys: &[Value],
 ) -> Result<Got<Answer>, Stop>
     requires live { IsLive V.sense v.old }
-    requires safe { Safe V.sense.partial (calls.function_keyed {S = S} roots.0 b args.now keys.now) (V.sense.heap v.old) }
+    requires safe { Safe V.sense.partial (calls.function_keyed {S = S} roots.0 b args.now keys.now)
+        (V.sense.heap v.old) }
     ensures { Meets V.sense (calls.function_keyed roots.0 b args.now keys.now) v.old v.new result }
 {
     if keys.is_empty() {
@@ -338,8 +340,10 @@ fn call_other<S, V: View<S>>(
     keys: &[Value],
 ) -> Result<Got<Answer>, Stop>
     requires live { IsLive V.sense v.old }
-    requires safe { Safe V.sense.partial (calls.other_row {S = S} roots.0 (option_map (λ m. m.0) me) b own args.now keys.now) (V.sense.heap v.old) }
-    ensures { Meets V.sense (calls.other_row roots.0 (option_map (λ m. m.0) me) b own args.now keys.now) v.old v.new result }
+    requires safe { Safe V.sense.partial
+        (calls.other_row {S = S} roots.0 (option_map (λ m. m.0) me) b own args.now keys.now) (V.sense.heap v.old) }
+    ensures { Meets V.sense (calls.other_row roots.0 (option_map (λ m. m.0) me) b own args.now keys.now) v.old
+        v.new result }
 {
     if b == RAW_INPUT {
         input_keyed(alloc, v, roots, args, keys)
@@ -367,8 +371,10 @@ pub fn call<S, V: View<S>>(
     keys: &[Value],
 ) -> Result<Got<Answer>, Stop>
     requires live { IsLive V.sense v.old }
-    requires safe { Safe V.sense.partial (calls.call_row {S = S} roots.0 (option_map (λ m. m.0) me) b own args.now keys.now) (V.sense.heap v.old) }
-    ensures { Meets V.sense (calls.call_row roots.0 (option_map (λ m. m.0) me) b own args.now keys.now) v.old v.new result }
+    requires safe { Safe V.sense.partial
+        (calls.call_row {S = S} roots.0 (option_map (λ m. m.0) me) b own args.now keys.now) (V.sense.heap v.old) }
+    ensures { Meets V.sense (calls.call_row roots.0 (option_map (λ m. m.0) me) b own args.now keys.now) v.old
+        v.new result }
 {
     if is_object_method(b) {
         call_method(alloc, v, b, own, args, keys)

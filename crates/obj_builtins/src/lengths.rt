@@ -50,7 +50,8 @@ fn counted(alloc: Global, n: Option<i64>) -> Result<Got<Value>, Stop>
 
 /// How many numbers the range of these three values has, as a value.
 fn counted_range(alloc: Global, start: Value, stop: Value, step: Value) -> Result<Got<Value>, Stop>
-    ensures { MatchResult result (λ g. g ≡ lengths.counted (lengths.range_count start stop step)) (λ e. e ≡ OutOfMemory) }
+    ensures { MatchResult result (λ g. g ≡ lengths.counted (lengths.range_count start stop step))
+        (λ e. e ≡ OutOfMemory) }
 {
     counted(alloc, range_count(start, stop, step))
 }

@@ -103,7 +103,8 @@ fn is_numeral(bytes: &[u8]) -> bool
 
 /// The number that digits write; none, where it is above `MOST`.
 fn value_of(digits: &[u8]) -> Option<u64>
-    ensures { MatchOption result (9_223_372_036_854_775_808 < literals.value_after 0 digits.now) (λ n. (n ≡ literals.value_after 0 digits.now) × (n ≤ 9_223_372_036_854_775_808)) }
+    ensures { MatchOption result (9_223_372_036_854_775_808 < literals.value_after 0 digits.now)
+        (λ n. (n ≡ literals.value_after 0 digits.now) × (n ≤ 9_223_372_036_854_775_808)) }
 {
     let mut value: u128 = 0;
     let mut rest = digits;

@@ -1,19 +1,19 @@
-pub mod Below
-pub mod Nearest
+mod Below
+mod Nearest
 pub mod RootsKept
-pub mod ExceptionClasses
+mod ExceptionClasses
 pub mod Parts
 pub mod AttrLooks
-pub mod OwnDict
+mod OwnDict
 pub mod AttrHolds
 pub mod FaultHolds
-pub mod Given
+mod Given
 pub mod SteadyRows
 pub mod ClassHolds
-pub mod LeftSteps
+mod LeftSteps
 pub mod TellingLooks
 pub mod TellingCalm
-pub mod Steadily
-pub mod RootsSteps
+mod Steadily
+mod RootsSteps
 pub mod RootsHold
-pub mod TellingWords
+mod TellingWords

@@ -21,7 +21,8 @@ fn part_text<S, V: View<S>>(
     part: Option<Part>,
 ) -> Result<Got<Bytes>, Stop>
     requires live { IsLive V.sense v.old }
-    requires safe { Safe V.sense.partial (part_text_row {S = S} (told_levels roots.0 levels) part) (V.sense.heap v.old) }
+    requires safe { Safe V.sense.partial (part_text_row {S = S} (told_levels roots.0 levels) part)
+        (V.sense.heap v.old) }
     ensures { Meets V.sense (part_text_row (told_levels roots.0 levels) part) v.old v.new result }
 {
     match part {
@@ -41,7 +42,8 @@ fn exception_text<S, V: View<S>>(
     a: Addr,
 ) -> Result<Got<Bytes>, Stop>
     requires live { IsLive V.sense v.old }
-    requires safe { Safe V.sense.partial (exception_text_row {S = S} roots.0 (told_levels roots.0 levels) a.0) (V.sense.heap v.old) }
+    requires safe { Safe V.sense.partial (exception_text_row {S = S} roots.0 (told_levels roots.0 levels) a.0)
+        (V.sense.heap v.old) }
     ensures { Meets V.sense (exception_text_row roots.0 (told_levels roots.0 levels) a.0) v.old v.new result }
 {
     let part = told_part(alloc, v, roots, a)?;
@@ -59,8 +61,10 @@ fn leveled<S, V: View<S>>(
     a: Addr,
 ) -> Result<Got<Bytes>, Stop>
     requires live { IsLive V.sense v.old }
-    requires safe { Safe V.sense.partial (level_row {S = S} (left roots.0 levels) (λ u. exception_text_row roots.0 u a.0)) (V.sense.heap v.old) }
-    ensures { Meets V.sense (level_row (left roots.0 levels) (λ u. exception_text_row roots.0 u a.0)) v.old v.new result }
+    requires safe { Safe V.sense.partial
+        (level_row {S = S} (left roots.0 levels) (λ u. exception_text_row roots.0 u a.0)) (V.sense.heap v.old) }
+    ensures { Meets V.sense (level_row (left roots.0 levels) (λ u. exception_text_row roots.0 u a.0)) v.old
+        v.new result }
 {
     if levels == 0 {
         too_deep(alloc)
@@ -81,7 +85,8 @@ fn if_exception<S, V: View<S>>(
     exception: bool,
 ) -> Result<Got<Bytes>, Stop>
     requires live { IsLive V.sense v.old }
-    requires safe { Safe V.sense.partial (if_exception_row {S = S} roots.0 (left roots.0 levels) levels a.0 exception) (V.sense.heap v.old) }
+    requires safe { Safe V.sense.partial (if_exception_row {S = S} roots.0 (left roots.0 levels) levels a.0 exception)
+        (V.sense.heap v.old) }
     ensures { Meets V.sense (if_exception_row roots.0 (left roots.0 levels) levels a.0 exception) v.old v.new result }
 {
     if exception {
@@ -102,7 +107,8 @@ fn instance_text<S, V: View<S>>(
     a: Addr,
 ) -> Result<Got<Bytes>, Stop>
     requires live { IsLive V.sense v.old }
-    requires safe { Safe V.sense.partial (instance_text_row {S = S} roots.0 (left roots.0 levels) levels a.0) (V.sense.heap v.old) }
+    requires safe { Safe V.sense.partial (instance_text_row {S = S} roots.0 (left roots.0 levels) levels a.0)
+        (V.sense.heap v.old) }
     ensures { Meets V.sense (instance_text_row roots.0 (left roots.0 levels) levels a.0) v.old v.new result }
 {
     let exception = is_of(v, roots, BASE_EXCEPTION, a)?;
@@ -121,7 +127,8 @@ fn alone_by<S, V: View<S>>(
     kind: Kind,
 ) -> Result<Got<Bytes>, Stop>
     requires live { IsLive V.sense v.old }
-    requires safe { Safe V.sense.partial (alone_by_row {S = S} roots.0 (left roots.0 levels) levels a.0 kind) (V.sense.heap v.old) }
+    requires safe { Safe V.sense.partial (alone_by_row {S = S} roots.0 (left roots.0 levels) levels a.0 kind)
+        (V.sense.heap v.old) }
     ensures { Meets V.sense (alone_by_row roots.0 (left roots.0 levels) levels a.0 kind) v.old v.new result }
 {
     match kind {
@@ -141,7 +148,8 @@ fn alone_at<S, V: View<S>>(
     a: Addr,
 ) -> Result<Got<Bytes>, Stop>
     requires live { IsLive V.sense v.old }
-    requires safe { Safe V.sense.partial (alone_at_row {S = S} roots.0 (left roots.0 levels) levels a.0) (V.sense.heap v.old) }
+    requires safe { Safe V.sense.partial (alone_at_row {S = S} roots.0 (left roots.0 levels) levels a.0)
+        (V.sense.heap v.old) }
     ensures { Meets V.sense (alone_at_row roots.0 (left roots.0 levels) levels a.0) v.old v.new result }
 {
     let kind = kind(v, a)?;
@@ -159,7 +167,8 @@ fn alone<S, V: View<S>>(
     x: Value,
 ) -> Result<Got<Bytes>, Stop>
     requires live { IsLive V.sense v.old }
-    requires safe { Safe V.sense.partial (alone_row {S = S} roots.0 (left roots.0 levels) levels x) (V.sense.heap v.old) }
+    requires safe { Safe V.sense.partial (alone_row {S = S} roots.0 (left roots.0 levels) levels x)
+        (V.sense.heap v.old) }
     ensures { Meets V.sense (alone_row roots.0 (left roots.0 levels) levels x) v.old v.new result }
 {
     match x {

@@ -1,6 +1,6 @@
 pub mod FindSteps
-pub mod Halves
+mod Halves
 pub mod Holding
-pub mod Pairing
+mod Pairing
 pub mod SteadyRows
 pub mod Whole

@@ -92,7 +92,8 @@ fn make_tuples<S, V: View<S>>(alloc: Global, v: &mut V, d: Addr, n: usize) -> Re
     requires live { IsLive V.sense v.old }
     requires stands { Stands V.sense d.0 (at (V.sense.heap v.old) d.0) v.old }
     requires count { length (at (V.sense.heap v.old) d.0).values ≡ n }
-    requires safe { Safe V.sense.partial (tuples_row {S = S} [] (at (V.sense.heap v.old) d.0).values) (V.sense.heap v.old) }
+    requires safe { Safe V.sense.partial (tuples_row {S = S} [] (at (V.sense.heap v.old) d.0).values)
+        (V.sense.heap v.old) }
     ensures { Meets V.sense (tuples_row [] (at (V.sense.heap v.old) d.0).values) v.old v.new result }
 {
     let mut refs = Values::new(alloc);

@@ -1,11 +1,11 @@
-pub mod InOrder
-pub mod SortedBy
-pub mod Loops
-pub mod OrderedValues
-pub mod SortLooks
-pub mod SearchLooks
-pub mod ListLeaves
-pub mod KeyLeaves
+mod InOrder
+mod SortedBy
+mod Loops
+mod OrderedValues
+mod SortLooks
+mod SearchLooks
+mod ListLeaves
+mod KeyLeaves
 pub mod MethodsHold
-pub mod OnlyEqual
+mod OnlyEqual
 pub mod SteadyMethods

@@ -124,8 +124,8 @@ fn or_given(given: Option<Value>, taken: Got<Value>) -> Got<Value>
     }
 }
 
-/// `pop`: takes out the pair of a key, and gives its value. Where the key isn't there, it gives the value that is given, and
-/// without one raises KeyError with the key.
+/// `pop`: takes out the pair of a key, and gives its value. Where the key isn't there, it gives the value that is
+/// given, and without one raises KeyError with the key.
 #[tactic(auto, using(py_data::proofs::Rows::row_steps, py_data::proofs::Steps::call_steps), unfolding(crate::specs::Dicts::pop_with))]
 fn pop<S, V: View<S>>(
     alloc: Global,

@@ -30,8 +30,8 @@ pub fn remove_law<S, D: Demands<S>, V: View<S>>()
     ensures missing { RemoveLackLaw V.sense D.rules }
 {}
 
-/// `sort` leaves the items in order, as `sorted` has them. TypeError where they are neither all numbers nor all strings; all
-/// records are then as they were.
+/// `sort` leaves the items in order, as `sorted` has them. TypeError where they are neither all numbers nor all
+/// strings; all records are then as they were.
 pub fn sort_law<S, D: Demands<S>, V: View<S>>()
     ensures ordered { SortLaw V.sense D.rules }
     ensures refused { SortRefusedLaw V.sense D.rules }

@@ -1,16 +1,16 @@
 pub mod LevelSteps
-pub mod EqualSteps
+mod EqualSteps
 pub mod Filled
 pub mod Dropped
-pub mod KindLooks
-pub mod EqualLooks
-pub mod OrderLooks
-pub mod TruthLooks
+mod KindLooks
+mod EqualLooks
+mod OrderLooks
+mod TruthLooks
 pub mod TextLooks
 pub mod NestLooks
-pub mod OrderTotal
-pub mod KeyLemmas
-pub mod PairSearch
-pub mod PairMatches
-pub mod EqualSame
+mod OrderTotal
+mod KeyLemmas
+mod PairSearch
+mod PairMatches
+mod EqualSame
 pub mod CalmRows

@@ -108,8 +108,10 @@ fn every_item<S, V: View<S>>(
     n: usize,
 ) -> Result<Got<bool>, Stop>
     requires live { IsLive V.sense v.old }
-    requires safe { Safe V.sense.partial (until_row {S = S} (item_row (equal_levels levels) a.0 b.0) is_equal (Is true) 0 n) (V.sense.heap v.old) }
-    ensures { Meets V.sense (until_row (item_row (equal_levels levels) a.0 b.0) is_equal (Is true) 0 n) v.old v.new result }
+    requires safe { Safe V.sense.partial
+        (until_row {S = S} (item_row (equal_levels levels) a.0 b.0) is_equal (Is true) 0 n) (V.sense.heap v.old) }
+    ensures { Meets V.sense (until_row (item_row (equal_levels levels) a.0 b.0) is_equal (Is true) 0 n) v.old
+        v.new result }
 {
     'turns: for i in 0..n {
         let first = item(alloc, v, levels, a, b, i)?;
@@ -133,7 +135,8 @@ fn items_sized<S, V: View<S>>(
     m: usize,
 ) -> Result<Got<bool>, Stop>
     requires live { IsLive V.sense v.old }
-    requires safe { Safe V.sense.partial (sized_row {S = S} (item_row (equal_levels levels) a.0 b.0) n m) (V.sense.heap v.old) }
+    requires safe { Safe V.sense.partial (sized_row {S = S} (item_row (equal_levels levels) a.0 b.0) n m)
+        (V.sense.heap v.old) }
     ensures { Meets V.sense (sized_row (item_row (equal_levels levels) a.0 b.0) n m) v.old v.new result }
 {
     if n == m {
@@ -276,9 +279,11 @@ fn every_pair<S, V: View<S>>(
     n: usize,
 ) -> Result<Got<bool>, Stop>
     requires live { IsLive V.sense v.old }
-    requires safe { Safe V.sense.partial (until_row {S = S} (pair_row (equal_levels levels) a.0 b.0) is_equal (Is true) 0 n) (V.sense.heap v.old) }
+    requires safe { Safe V.sense.partial
+        (until_row {S = S} (pair_row (equal_levels levels) a.0 b.0) is_equal (Is true) 0 n) (V.sense.heap v.old) }
     requires within { n ≤ LENGTH_LIMIT }
-    ensures { Meets V.sense (until_row (pair_row (equal_levels levels) a.0 b.0) is_equal (Is true) 0 n) v.old v.new result }
+    ensures { Meets V.sense (until_row (pair_row (equal_levels levels) a.0 b.0) is_equal (Is true) 0 n) v.old
+        v.new result }
 {
     'turns: for i in 0..n {
         let first = pair(alloc, v, levels, a, b, i)?;
@@ -302,7 +307,8 @@ fn pairs_sized<S, V: View<S>>(
     m: usize,
 ) -> Result<Got<bool>, Stop>
     requires live { IsLive V.sense v.old }
-    requires safe { Safe V.sense.partial (paired_row {S = S} (pair_row (equal_levels levels) a.0 b.0) n m) (V.sense.heap v.old) }
+    requires safe { Safe V.sense.partial (paired_row {S = S} (pair_row (equal_levels levels) a.0 b.0) n m)
+        (V.sense.heap v.old) }
     requires within { n ≤ LENGTH_LIMIT }
     ensures { Meets V.sense (paired_row (pair_row (equal_levels levels) a.0 b.0) n m) v.old v.new result }
 {
@@ -420,7 +426,8 @@ fn leveled_items<S, V: View<S>>(
     b: Addr,
 ) -> Result<Got<bool>, Stop>
     requires live { IsLive V.sense v.old }
-    requires safe { Safe V.sense.partial (level_row {S = S} (below equal_under levels) (λ u. items_row u a.0 b.0)) (V.sense.heap v.old) }
+    requires safe { Safe V.sense.partial (level_row {S = S} (below equal_under levels) (λ u. items_row u a.0 b.0))
+        (V.sense.heap v.old) }
     ensures { Meets V.sense (level_row (below equal_under levels) (λ u. items_row u a.0 b.0)) v.old v.new result }
 {
     if levels == 0 {
@@ -441,7 +448,8 @@ fn leveled_pairs<S, V: View<S>>(
     b: Addr,
 ) -> Result<Got<bool>, Stop>
     requires live { IsLive V.sense v.old }
-    requires safe { Safe V.sense.partial (level_row {S = S} (below equal_under levels) (λ u. pairs_row u a.0 b.0)) (V.sense.heap v.old) }
+    requires safe { Safe V.sense.partial (level_row {S = S} (below equal_under levels) (λ u. pairs_row u a.0 b.0))
+        (V.sense.heap v.old) }
     ensures { Meets V.sense (level_row (below equal_under levels) (λ u. pairs_row u a.0 b.0)) v.old v.new result }
 {
     if levels == 0 {
@@ -463,7 +471,8 @@ fn paired_by<S, V: View<S>>(
     how: Pairing,
 ) -> Result<Got<bool>, Stop>
     requires live { IsLive V.sense v.old }
-    requires safe { Safe V.sense.partial (by_pairing {S = S} (below equal_under levels) a.0 b.0 how) (V.sense.heap v.old) }
+    requires safe { Safe V.sense.partial (by_pairing {S = S} (below equal_under levels) a.0 b.0 how)
+        (V.sense.heap v.old) }
     ensures { Meets V.sense (by_pairing (below equal_under levels) a.0 b.0 how) v.old v.new result }
 {
     match how {

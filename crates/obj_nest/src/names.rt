@@ -87,7 +87,8 @@ fn with_name<S, V: View<S>>(
     out: Bytes,
 ) -> Result<Got<Bytes>, Stop>
     requires live { IsLive V.sense v.old }
-    requires safe { Safe V.sense.partial (between_row {S = S} front.now close.now (name_row a.0) out) (V.sense.heap v.old) }
+    requires safe { Safe V.sense.partial (between_row {S = S} front.now close.now (name_row a.0) out)
+        (V.sense.heap v.old) }
     ensures { Meets V.sense (between_row front.now close.now (name_row a.0) out) v.old v.new result }
 {
     let name = name(alloc, v, a)?;
@@ -106,7 +107,8 @@ fn with_named<S, V: View<S>>(
     out: Bytes,
 ) -> Result<Got<Bytes>, Stop>
     requires live { IsLive V.sense v.old }
-    requires safe { Safe V.sense.partial (between_row {S = S} front.now close.now (named_row a.0) out) (V.sense.heap v.old) }
+    requires safe { Safe V.sense.partial (between_row {S = S} front.now close.now (named_row a.0) out)
+        (V.sense.heap v.old) }
     ensures { Meets V.sense (between_row front.now close.now (named_row a.0) out) v.old v.new result }
 {
     let name = named(alloc, v, a)?;

@@ -172,7 +172,8 @@ fn every_turn<S, V: View<S>>(
     n: usize,
 ) -> Result<Got<Option<Ordering>>, Stop>
     requires live { IsLive V.sense v.old }
-    requires safe { Safe V.sense.partial (until_row {S = S} (turn_row (parts_at levels) a.0 b.0) is_open (Is None) 0 n) (V.sense.heap v.old) }
+    requires safe { Safe V.sense.partial (until_row {S = S} (turn_row (parts_at levels) a.0 b.0) is_open (Is None) 0 n)
+        (V.sense.heap v.old) }
     ensures { Meets V.sense (until_row (turn_row (parts_at levels) a.0 b.0) is_open (Is None) 0 n) v.old v.new result }
 {
     'turns: for i in 0..n {
@@ -263,7 +264,8 @@ fn leveled<S, V: View<S>>(
     b: Addr,
 ) -> Result<Got<Ordering>, Stop>
     requires live { IsLive V.sense v.old }
-    requires safe { Safe V.sense.partial (level_row {S = S} (parts_below levels) (λ u. listed_row u a.0 b.0)) (V.sense.heap v.old) }
+    requires safe { Safe V.sense.partial (level_row {S = S} (parts_below levels) (λ u. listed_row u a.0 b.0))
+        (V.sense.heap v.old) }
     ensures { Meets V.sense (level_row (parts_below levels) (λ u. listed_row u a.0 b.0)) v.old v.new result }
 {
     if levels == 0 {

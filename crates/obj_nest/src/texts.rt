@@ -110,7 +110,8 @@ fn every_part<S, V: View<S>>(
     out: Bytes,
 ) -> Result<Got<Bytes>, Stop>
     requires live { IsLive V.sense v.old }
-    requires safe { Safe V.sense.partial (each_row {S = S} (part_row (write_levels levels) a.0) 0 n out) (V.sense.heap v.old) }
+    requires safe { Safe V.sense.partial (each_row {S = S} (part_row (write_levels levels) a.0) 0 n out)
+        (V.sense.heap v.old) }
     ensures { Meets V.sense (each_row (part_row (write_levels levels) a.0) 0 n out) v.old v.new result }
 {
     let mut text = out;
@@ -135,7 +136,8 @@ fn every_couple<S, V: View<S>>(
     out: Bytes,
 ) -> Result<Got<Bytes>, Stop>
     requires live { IsLive V.sense v.old }
-    requires safe { Safe V.sense.partial (each_row {S = S} (couple_row (write_levels levels) a.0) 0 n out) (V.sense.heap v.old) }
+    requires safe { Safe V.sense.partial (each_row {S = S} (couple_row (write_levels levels) a.0) 0 n out)
+        (V.sense.heap v.old) }
     requires within { n ≤ LENGTH_LIMIT }
     ensures { Meets V.sense (each_row (couple_row (write_levels levels) a.0) 0 n out) v.old v.new result }
 {
@@ -163,7 +165,8 @@ fn items<S, V: View<S>>(
     out: Bytes,
 ) -> Result<Got<Bytes>, Stop>
     requires live { IsLive V.sense v.old }
-    requires safe { Safe V.sense.partial (parts_row {S = S} (part_row (write_levels levels) a.0) n close.now out) (V.sense.heap v.old) }
+    requires safe { Safe V.sense.partial (parts_row {S = S} (part_row (write_levels levels) a.0) n close.now out)
+        (V.sense.heap v.old) }
     ensures { Meets V.sense (parts_row (part_row (write_levels levels) a.0) n close.now out) v.old v.new result }
 {
     match every_part(alloc, v, levels, a, n, out)? {
@@ -188,7 +191,8 @@ fn pairs<S, V: View<S>>(
     out: Bytes,
 ) -> Result<Got<Bytes>, Stop>
     requires live { IsLive V.sense v.old }
-    requires safe { Safe V.sense.partial (parts_row {S = S} (couple_row (write_levels levels) a.0) n close.now out) (V.sense.heap v.old) }
+    requires safe { Safe V.sense.partial (parts_row {S = S} (couple_row (write_levels levels) a.0) n close.now out)
+        (V.sense.heap v.old) }
     requires within { n ≤ LENGTH_LIMIT }
     ensures { Meets V.sense (parts_row (couple_row (write_levels levels) a.0) n close.now out) v.old v.new result }
 {
@@ -269,7 +273,8 @@ fn leveled_list<S, V: View<S>>(
     out: Bytes,
 ) -> Result<Got<Bytes>, Stop>
     requires live { IsLive V.sense v.old }
-    requires safe { Safe V.sense.partial (level_row {S = S} (below write_under levels) (λ u. list_row u a.0 out)) (V.sense.heap v.old) }
+    requires safe { Safe V.sense.partial (level_row {S = S} (below write_under levels) (λ u. list_row u a.0 out))
+        (V.sense.heap v.old) }
     ensures { Meets V.sense (level_row (below write_under levels) (λ u. list_row u a.0 out)) v.old v.new result }
 {
     if levels == 0 {
@@ -290,7 +295,8 @@ fn leveled_tuple<S, V: View<S>>(
     out: Bytes,
 ) -> Result<Got<Bytes>, Stop>
     requires live { IsLive V.sense v.old }
-    requires safe { Safe V.sense.partial (level_row {S = S} (below write_under levels) (λ u. tuple_row u a.0 out)) (V.sense.heap v.old) }
+    requires safe { Safe V.sense.partial (level_row {S = S} (below write_under levels) (λ u. tuple_row u a.0 out))
+        (V.sense.heap v.old) }
     ensures { Meets V.sense (level_row (below write_under levels) (λ u. tuple_row u a.0 out)) v.old v.new result }
 {
     if levels == 0 {
@@ -311,7 +317,8 @@ fn leveled_dict<S, V: View<S>>(
     out: Bytes,
 ) -> Result<Got<Bytes>, Stop>
     requires live { IsLive V.sense v.old }
-    requires safe { Safe V.sense.partial (level_row {S = S} (below write_under levels) (λ u. dict_row u a.0 out)) (V.sense.heap v.old) }
+    requires safe { Safe V.sense.partial (level_row {S = S} (below write_under levels) (λ u. dict_row u a.0 out))
+        (V.sense.heap v.old) }
     ensures { Meets V.sense (level_row (below write_under levels) (λ u. dict_row u a.0 out)) v.old v.new result }
 {
     if levels == 0 {

@@ -1,10 +1,10 @@
-pub mod Lists
+mod Lists
 pub mod Powers
-pub mod Loops
+mod Loops
 pub mod Faults
 pub mod Nested
 pub mod NumbersHold
 pub mod OperandsHold
 pub mod Holding
 pub mod SteadyRows
-pub mod AnswerLaws
+mod AnswerLaws

@@ -207,7 +207,8 @@ fn write_at<S, V: View<S>>(
     out: Bytes,
 ) -> Result<Got<Bytes>, Stop>
     requires live { IsLive V.sense v.old }
-    requires safe { Safe V.sense.partial (piece_row {S = S} roots.0 args.now (piece_at ps.now i) out) (V.sense.heap v.old) }
+    requires safe { Safe V.sense.partial (piece_row {S = S} roots.0 args.now (piece_at ps.now i) out)
+        (V.sense.heap v.old) }
     ensures { Meets V.sense (piece_row roots.0 args.now (piece_at ps.now i) out) v.old v.new result }
 {
     write_piece(alloc, v, roots, args, piece_at(ps, i), out)

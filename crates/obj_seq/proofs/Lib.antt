@@ -1,18 +1,18 @@
-pub mod Places
-pub mod Tail
-pub mod GapLoop
+mod Places
+mod Tail
+mod GapLoop
 pub mod CollectLoop
 pub mod AfterLook
-pub mod PartSteps
-pub mod ReverseLoop
-pub mod Forms
-pub mod IterSteps
-pub mod RangeItems
+mod PartSteps
+mod ReverseLoop
+mod Forms
+mod IterSteps
+mod RangeItems
 pub mod Leaving
-pub mod IterFaults
+mod IterFaults
 pub mod Holding
-pub mod HoldingIters
+mod HoldingIters
 pub mod HoldingGather
 pub mod SteadyRows
-pub mod GatherSteps
-pub mod Heads
+mod GatherSteps
+mod Heads

@@ -204,7 +204,8 @@ fn next_over<S, V: View<S>>(
 ) -> Result<Got<Option<Value>>, Stop>
     requires live { IsLive V.sense v.old }
     requires fits { parts.at < 2 ^ 63 }
-    requires safe { Safe V.sense.partial (Do (Read parts.over.0) (next_over {S = S} it.0 parts.at parts.count)) (V.sense.heap v.old) }
+    requires safe { Safe V.sense.partial (Do (Read parts.over.0) (next_over {S = S} it.0 parts.at parts.count))
+        (V.sense.heap v.old) }
     ensures { Meets V.sense (Do (Read parts.over.0) (next_over it.0 parts.at parts.count)) v.old v.new result }
 {
     let over = parts.over;

@@ -41,7 +41,8 @@ fn close_gap<S, V: View<S>>(v: &mut V, a: Addr, k: usize, n: usize) -> Result<()
     requires stands { Stands V.sense a.0 (at (V.sense.heap v.old) a.0) v.old }
     requires count { length (at (V.sense.heap v.old) a.0).values ≡ n }
     requires within { k < n }
-    requires safe { Safe V.sense.partial (gap_row {S = S} a.0 k (drop (k + 1) (at (V.sense.heap v.old) a.0).values)) (V.sense.heap v.old) }
+    requires safe { Safe V.sense.partial (gap_row {S = S} a.0 k (drop (k + 1) (at (V.sense.heap v.old) a.0).values))
+        (V.sense.heap v.old) }
     ensures { Meets V.sense (gap_row a.0 k (drop (k + 1) (at (V.sense.heap v.old) a.0).values)) v.old v.new result }
 {
     'turns: for j in k..n - 1 {
@@ -97,7 +98,8 @@ fn open_gap<S, V: View<S>>(v: &mut V, a: Addr, k: usize, n: usize, x: Value) -> 
     requires stands { Stands V.sense a.0 (at (V.sense.heap v.old) a.0) v.old }
     requires count { length (at (V.sense.heap v.old) a.0).values ≡ n }
     requires within { k ≤ n }
-    requires safe { Safe V.sense.partial (shift_row {S = S} a.0 k x (drop k (at (V.sense.heap v.old) a.0).values)) (V.sense.heap v.old) }
+    requires safe { Safe V.sense.partial (shift_row {S = S} a.0 k x (drop k (at (V.sense.heap v.old) a.0).values))
+        (V.sense.heap v.old) }
     ensures { Meets V.sense (shift_row a.0 k x (drop k (at (V.sense.heap v.old) a.0).values)) v.old v.new result }
 {
     let mut held = x;

@@ -56,7 +56,8 @@ fn keys<S, V: View<S>>(alloc: Global, v: &mut V, a: Addr) -> Result<Got<Values>,
 fn letters<S, V: View<S>>(alloc: Global, v: &mut V, a: Addr) -> Result<Got<Values>, Stop>
     requires live { IsLive V.sense v.old }
     requires stands { Stands V.sense a.0 (at (V.sense.heap v.old) a.0) v.old }
-    requires safe { Safe V.sense.partial (letters_row {S = S} [] (at (V.sense.heap v.old) a.0).bytes) (V.sense.heap v.old) }
+    requires safe { Safe V.sense.partial (letters_row {S = S} [] (at (V.sense.heap v.old) a.0).bytes)
+        (V.sense.heap v.old) }
     ensures { Meets V.sense (letters_row [] (at (V.sense.heap v.old) a.0).bytes) v.old v.new result }
 {
     let n = v.byte_len(a)?;

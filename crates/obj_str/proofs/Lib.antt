@@ -1,7 +1,7 @@
-pub mod Copied
-pub mod PiecesLemmas
+mod Copied
+mod PiecesLemmas
 pub mod BlankLemmas
-pub mod Fitting
-pub mod JoinLoop
-pub mod PiecesLaws
+mod Fitting
+mod JoinLoop
+mod PiecesLaws
 pub mod StrHolds

@@ -25,8 +25,8 @@ pub fn words_law()
     ensures { WordsLaw }
 {}
 
-/// `replace` leaves no old part where the two parts share no byte and neither is empty; to replace a part by itself changes
-/// nothing.
+/// `replace` leaves no old part where the two parts share no byte and neither is empty; to replace a part by itself
+/// changes nothing.
 pub fn replace_law()
     ensures { ReplaceLaw }
 {}

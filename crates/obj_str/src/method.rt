@@ -227,7 +227,8 @@ fn make_replaced<S, V: View<S>>(
     new: &[u8],
 ) -> Result<Got<Value>, Stop>
     requires live { IsLive V.sense v.old }
-    requires safe { Safe V.sense.partial (new_text {S = S} (pieces.replaced old.now new.now bytes.now)) (V.sense.heap v.old) }
+    requires safe { Safe V.sense.partial (new_text {S = S} (pieces.replaced old.now new.now bytes.now))
+        (V.sense.heap v.old) }
     ensures { Meets V.sense (new_text (pieces.replaced old.now new.now bytes.now)) v.old v.new result }
 {
     let text = replaced(alloc, bytes, old, new)?;

@@ -52,7 +52,8 @@ fn finish_list<S, V: View<S>>(
     values: Values,
 ) -> Result<Got<Value>, Stop>
     requires live { IsLive V.sense v.old }
-    requires safe { Safe V.sense.partial (strings_then {S = S} new_list (last_of separator.now rest.now) values) (V.sense.heap v.old) }
+    requires safe { Safe V.sense.partial (strings_then {S = S} new_list (last_of separator.now rest.now) values)
+        (V.sense.heap v.old) }
     ensures { Meets V.sense (strings_then new_list (last_of separator.now rest.now) values) v.old v.new result }
 {
     match separator {
@@ -75,7 +76,8 @@ fn make_pieces<S, V: View<S>>(
 ) -> Result<Got<Value>, Stop>
     requires some { IfSome separator.now (λ s. 0 < length s) }
     requires live { IsLive V.sense v.old }
-    requires safe { Safe V.sense.partial (strings_then {S = S} new_list (pieces_of separator.now bytes.now) []) (V.sense.heap v.old) }
+    requires safe { Safe V.sense.partial (strings_then {S = S} new_list (pieces_of separator.now bytes.now) [])
+        (V.sense.heap v.old) }
     ensures { Meets V.sense (strings_then new_list (pieces_of separator.now bytes.now) []) v.old v.new result }
 {
     let mut values = Values::new(alloc);

@@ -1,4 +1,4 @@
-pub mod BenchSteps
-pub mod BenchClasses
-pub mod BenchPairs
-pub mod BenchUndo
+mod BenchSteps
+mod BenchClasses
+mod BenchPairs
+mod BenchUndo

@@ -68,8 +68,11 @@ pub fn thread_call<S, V: View<S>>(
     keys: &[Value],
 ) -> Result<Got<Answer>, Stop>
     requires live { IsLive V.sense v.old }
-    requires safe { Safe V.sense.partial (threads.thread_call_row {S = S} roots.0 (option_map (λ m. m.0) me) b own args.now keys.now) (V.sense.heap v.old) }
-    ensures { Meets V.sense (threads.thread_call_row roots.0 (option_map (λ m. m.0) me) b own args.now keys.now) v.old v.new result }
+    requires safe { Safe V.sense.partial
+        (threads.thread_call_row {S = S} roots.0 (option_map (λ m. m.0) me) b own args.now keys.now)
+        (V.sense.heap v.old) }
+    ensures { Meets V.sense (threads.thread_call_row roots.0 (option_map (λ m. m.0) me) b own args.now keys.now) v.old
+        v.new result }
 {
     if is_lock_method(b) {
         lock_method(alloc, v, b, own, args, keys)

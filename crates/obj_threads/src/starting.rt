@@ -294,7 +294,8 @@ pub fn start_new<S, V: View<S>>(
     keys: &[Value],
 ) -> Result<Got<Answer>, Stop>
     requires live { IsLive V.sense v.old }
-    requires safe { Safe V.sense.partial (starting.start_new_row {S = S} roots.0 args.now keys.now) (V.sense.heap v.old) }
+    requires safe { Safe V.sense.partial (starting.start_new_row {S = S} roots.0 args.now keys.now)
+        (V.sense.heap v.old) }
     ensures { Meets V.sense (starting.start_new_row roots.0 args.now keys.now) v.old v.new result }
 {
     if keys.is_empty() {

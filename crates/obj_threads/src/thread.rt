@@ -274,7 +274,8 @@ fn join_started<S, V: View<S>>(
     a: Addr,
 ) -> Result<Got<Answer>, Stop>
     requires live { IsLive V.sense v.old }
-    requires safe { Safe V.sense.partial (threads.join_started {S = S} (option_map (λ m. m.0) me) a.0) (V.sense.heap v.old) }
+    requires safe { Safe V.sense.partial (threads.join_started {S = S} (option_map (λ m. m.0) me) a.0)
+        (V.sense.heap v.old) }
     ensures { Meets V.sense (threads.join_started (option_map (λ m. m.0) me) a.0) v.old v.new result }
 {
     if is_me(me, a) {
@@ -294,7 +295,8 @@ fn join_by_number<S, V: View<S>>(
     fresh: bool,
 ) -> Result<Got<Answer>, Stop>
     requires live { IsLive V.sense v.old }
-    requires safe { Safe V.sense.partial (threads.join_by_number {S = S} (option_map (λ m. m.0) me) a.0 fresh) (V.sense.heap v.old) }
+    requires safe { Safe V.sense.partial (threads.join_by_number {S = S} (option_map (λ m. m.0) me) a.0 fresh)
+        (V.sense.heap v.old) }
     ensures { Meets V.sense (threads.join_by_number (option_map (λ m. m.0) me) a.0 fresh) v.old v.new result }
 {
     if fresh {
@@ -313,7 +315,8 @@ fn join<S, V: View<S>>(
     a: Addr,
 ) -> Result<Got<Answer>, Stop>
     requires live { IsLive V.sense v.old }
-    requires safe { Safe V.sense.partial (threads.join_row {S = S} (option_map (λ m. m.0) me) a.0) (V.sense.heap v.old) }
+    requires safe { Safe V.sense.partial (threads.join_row {S = S} (option_map (λ m. m.0) me) a.0)
+        (V.sense.heap v.old) }
     ensures { Meets V.sense (threads.join_row (option_map (λ m. m.0) me) a.0) v.old v.new result }
 {
     let n = look(v, a, 2)?;
@@ -331,7 +334,8 @@ fn bare_method<S, V: View<S>>(
     a: Addr,
 ) -> Result<Got<Answer>, Stop>
     requires live { IsLive V.sense v.old }
-    requires safe { Safe V.sense.partial (threads.bare_thread_row {S = S} roots.0 (option_map (λ m. m.0) me) m a) (V.sense.heap v.old) }
+    requires safe { Safe V.sense.partial (threads.bare_thread_row {S = S} roots.0 (option_map (λ m. m.0) me) m a)
+        (V.sense.heap v.old) }
     ensures { Meets V.sense (threads.bare_thread_row roots.0 (option_map (λ m. m.0) me) m a) v.old v.new result }
 {
     if m == THREAD_START {
@@ -354,8 +358,10 @@ fn bare<S, V: View<S>>(
     keys: &[Value],
 ) -> Result<Got<Answer>, Stop>
     requires live { IsLive V.sense v.old }
-    requires safe { Safe V.sense.partial (threads.thread_bare {S = S} roots.0 (option_map (λ m. m.0) me) m a args.now keys.now) (V.sense.heap v.old) }
-    ensures { Meets V.sense (threads.thread_bare roots.0 (option_map (λ m. m.0) me) m a args.now keys.now) v.old v.new result }
+    requires safe { Safe V.sense.partial
+        (threads.thread_bare {S = S} roots.0 (option_map (λ m. m.0) me) m a args.now keys.now) (V.sense.heap v.old) }
+    ensures { Meets V.sense (threads.thread_bare roots.0 (option_map (λ m. m.0) me) m a args.now keys.now) v.old
+        v.new result }
 {
     if is_bare(args, keys) {
         bare_method(alloc, v, roots, me, m, a)
@@ -378,8 +384,10 @@ fn of_kind<S, V: View<S>>(
     kind: Kind,
 ) -> Result<Got<Answer>, Stop>
     requires live { IsLive V.sense v.old }
-    requires safe { Safe V.sense.partial (threads.thread_of {S = S} roots.0 (option_map (λ m. m.0) me) m a args.now keys.now kind) (V.sense.heap v.old) }
-    ensures { Meets V.sense (threads.thread_of roots.0 (option_map (λ m. m.0) me) m a args.now keys.now kind) v.old v.new result }
+    requires safe { Safe V.sense.partial
+        (threads.thread_of {S = S} roots.0 (option_map (λ m. m.0) me) m a args.now keys.now kind) (V.sense.heap v.old) }
+    ensures { Meets V.sense (threads.thread_of roots.0 (option_map (λ m. m.0) me) m a args.now keys.now kind) v.old
+        v.new result }
 {
     match kind {
         Kind::Thread => bare(alloc, v, roots, me, m, a, args, keys),
@@ -400,8 +408,10 @@ fn of_record<S, V: View<S>>(
     keys: &[Value],
 ) -> Result<Got<Answer>, Stop>
     requires live { IsLive V.sense v.old }
-    requires safe { Safe V.sense.partial (threads.thread_at {S = S} roots.0 (option_map (λ m. m.0) me) m a args.now keys.now) (V.sense.heap v.old) }
-    ensures { Meets V.sense (threads.thread_at roots.0 (option_map (λ m. m.0) me) m a args.now keys.now) v.old v.new result }
+    requires safe { Safe V.sense.partial
+        (threads.thread_at {S = S} roots.0 (option_map (λ m. m.0) me) m a args.now keys.now) (V.sense.heap v.old) }
+    ensures { Meets V.sense (threads.thread_at roots.0 (option_map (λ m. m.0) me) m a args.now keys.now) v.old
+        v.new result }
 {
     let kind = kind(v, a)?;
     of_kind(alloc, v, roots, me, m, a, args, keys, kind)
@@ -420,8 +430,10 @@ pub fn thread_method<S, V: View<S>>(
     keys: &[Value],
 ) -> Result<Got<Answer>, Stop>
     requires live { IsLive V.sense v.old }
-    requires safe { Safe V.sense.partial (threads.thread_row {S = S} roots.0 (option_map (λ m. m.0) me) m own args.now keys.now) (V.sense.heap v.old) }
-    ensures { Meets V.sense (threads.thread_row roots.0 (option_map (λ m. m.0) me) m own args.now keys.now) v.old v.new result }
+    requires safe { Safe V.sense.partial
+        (threads.thread_row {S = S} roots.0 (option_map (λ m. m.0) me) m own args.now keys.now) (V.sense.heap v.old) }
+    ensures { Meets V.sense (threads.thread_row roots.0 (option_map (λ m. m.0) me) m own args.now keys.now) v.old
+        v.new result }
 {
     match own {
         Value::Ref(a) => of_record(alloc, v, roots, me, m, a, args, keys),

@@ -1,8 +1,8 @@
-pub mod PairLoops
+mod PairLoops
 pub mod Places
-pub mod Wide
-pub mod PastEnds
-pub mod Afters
-pub mod Loops
-pub mod RootsLoop
-pub mod Numbering
+mod Wide
+mod PastEnds
+mod Afters
+mod Loops
+mod RootsLoop
+mod Numbering

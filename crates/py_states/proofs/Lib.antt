@@ -1,6 +1,6 @@
-pub mod PileLemmas
-pub mod LaidLemmas
-pub mod TopLemmas
-pub mod SettleLemmas
-pub mod SameLemmas
+mod PileLemmas
+mod LaidLemmas
+mod TopLemmas
+mod SettleLemmas
+mod SameLemmas
 pub mod Running

@@ -1,7 +1,7 @@
-pub mod Guarding
-pub mod Moving
-pub mod Opened
-pub mod Places
+mod Guarding
+mod Moving
+mod Opened
+mod Places
 mod StackRefers
 mod PeekedRows
 mod BuiltinWaits

@@ -1,2 +1,2 @@
-pub mod Known
-pub mod Line
+mod Known
+mod Line

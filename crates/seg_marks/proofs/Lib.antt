@@ -1,3 +1,3 @@
-pub mod ByteLemmas
-pub mod RunLemmas
-pub mod SeenLemmas
+mod ByteLemmas
+mod RunLemmas
+mod SeenLemmas

@@ -50,7 +50,8 @@ pub sound_core : {S : Type 0} (p : Prog S) (sound : Heap → List S → Type 0) 
 sound_core p sound law most first d m b s =
     let w = s.stands.worlds in
     let g = subst (Good p (begin_with p (first_world first.input first.ends)) most) s.stands.core s.stands.kept.good in
-    sound_run p sound law (begin_with p (first_world first.input first.ends)) (committed (core_of w m b)) b.history.entries
+    sound_run p sound law (begin_with p (first_world first.input first.ends)) (committed (core_of w m b))
+    b.history.entries
     s.first_sound g.run
 
 module _ {S : Type 0} (p : Prog S) (w : Worlds) (m : Meaning) (b : Books S) (t : ℕ) where

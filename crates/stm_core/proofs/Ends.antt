@@ -108,7 +108,8 @@ module _ {S : Type 0} (p : Prog S) (m : Meaning) (b : Books S) (e : (a : ℕ) �
     -- for devices that are as they were when it was made
     module _ (most : ℕ) (first d : DeviceState) (same : first ≡ d) (dry : d.mid ≡ false) where
       pub stands_first : StandsFor p most first d m b (outer_new (core_new p (first_world d.input d.ends)))
-      stands_first = subst (λ z. StandsFor p most z d m b (outer_new (core_new p (first_world d.input d.ends)))) (sym same)
+      stands_first = subst (λ z. StandsFor p most z d m b
+          (outer_new (core_new p (first_world d.input d.ends)))) (sym same)
           (new_stands most d dry)
 
       pub new_sane : (sound : Heap → List S → Type 0) → sound no_records (p.first ∷ []) →

@@ -106,7 +106,8 @@ calm_leaves p l e r c c1 publishes z = record { publishes = publishes z.quiet; b
 
 -- both passes of the transaction x of segment i, from a state to which moves led that committed nothing, and a cause is
 -- set
-pub turn_added : {S : Type 0} (p : Prog S) (l : Limits) (i : ℕ) (x : Transaction S) (c0 c : CoreState S) (q : Option Cause)
+pub turn_added : {S : Type 0} (p : Prog S) (l : Limits) (i : ℕ) (x : Transaction S) (c0 c : CoreState S)
+    (q : Option Cause)
     → c.segments i ≡ Running x → 1 ≤ x.steps → NoneWins i x c →
     IsQuiet c0 (doom_readers i x (range_with_len 0 l.segments) c)
     → AddsTurn l i x c0 (record (published i x (doom_readers i x (range_with_len 0 l.segments) c)) { cause = q })

@@ -1,59 +1,59 @@
 pub mod Publish
-pub mod Kept
-pub mod TwoPasses
-pub mod New
-pub mod Looking
-pub mod Fits
-pub mod Halting
-pub mod Holding
-pub mod Used
-pub mod Peaks
-pub mod Changing
-pub mod Seeing
-pub mod Telling
-pub mod Counting
-pub mod Way
-pub mod Keeping
-pub mod Stepping
-pub mod Stopping
-pub mod Pure
-pub mod Wholes
+mod Kept
+mod TwoPasses
+mod New
+mod Looking
+mod Fits
+mod Halting
+mod Holding
+mod Used
+mod Peaks
+mod Changing
+mod Seeing
+mod Telling
+mod Counting
+mod Way
+mod Keeping
+mod Stepping
+mod Stopping
+mod Pure
+mod Wholes
 pub mod Soundness
-pub mod Afresh
-pub mod Richer
-pub mod RowPeaks
-pub mod StepOut
-pub mod Pausing
-pub mod Advancing
-pub mod Committing
-pub mod Publishing
-pub mod Beginning
-pub mod Hands
-pub mod StandsAgain
-pub mod Soloing
-pub mod FinishingLemmas
+mod Afresh
+mod Richer
+mod RowPeaks
+mod StepOut
+mod Pausing
+mod Advancing
+mod Committing
+mod Publishing
+mod Beginning
+mod Hands
+mod StandsAgain
+mod Soloing
+mod FinishingLemmas
 mod Standings
-pub mod Settling
-pub mod Sighting
-pub mod Lending
-pub mod Loaning
-pub mod Breaking
-pub mod Endings
-pub mod Advanced
-pub mod Calling
-pub mod TakenSteps
-pub mod PeaksRising
-pub mod EventSteps
-pub mod PieceEvents
-pub mod OutsideLemmas
-pub mod InnerMoves
-pub mod SoloMoves
-pub mod Installing
-pub mod Replaying
-pub mod Putting
-pub mod InstallCalls
-pub mod Came
+mod Settling
+mod Sighting
+mod Lending
+mod Loaning
+mod Breaking
+mod Endings
+mod Advanced
+mod Calling
+mod TakenSteps
+mod PeaksRising
+mod EventSteps
+mod PieceEvents
+mod OutsideLemmas
+mod InnerMoves
+mod SoloMoves
+mod Installing
+mod Replaying
+mod Putting
+mod InstallCalls
+mod Came
 mod Leaving
 mod Histories
-pub mod Ends
+mod Ends
 mod StaysOver

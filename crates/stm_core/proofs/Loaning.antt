@@ -63,7 +63,8 @@ module _ {S : Type 0} (p : Prog S) (most k : ℕ) (first d : DeviceState) (m : M
         thread = h.loan.thread;
         state = h.loan.state;
         most = h.loan.most;
-        loan = subst (λ i. IsLoan i (transaction w (m.part k) x) (piece_state l.view).loaned (piece_state l.view).locked)
+        loan = subst (λ i. IsLoan i (transaction w (m.part k) x) (piece_state l.view).loaned
+            (piece_state l.view).locked)
             (sym (ap (λ (c : CoreState S). c.image) s.core))
             (lent_loan w m k x (piece_state l.view).loaned (piece_state l.view).locked (whole.works k x h.is)
             h.loan.lent);

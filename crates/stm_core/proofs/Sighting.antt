@@ -26,7 +26,8 @@ pub has_bytes : (h : Heap) (a from n : ℕ) → Has h a → from + n ≤ length 
 has_bytes h a from n there le = where_at h a (λ r. from + n ≤ length r.bytes) there le
 
 -- the first parts of two lists are the same, and so are the next ones
-pub more_same : {X : Type 0} (xs ys : List X) (d n : ℕ) → take d xs ≡ take d ys → take n (drop d xs) ≡ take n (drop d ys)
+pub more_same : {X : Type 0} (xs ys : List X) (d n : ℕ) → take d xs ≡ take d ys →
+    take n (drop d xs) ≡ take n (drop d ys)
     → take (d + n) xs ≡ take (d + n) ys
 more_same xs ys d n e f = take-add d n xs ∙ ap (λ z. z ++ take n (drop d xs)) e ∙ ap (λ z. take d ys ++ z) f ∙
     sym (take-add d n ys)

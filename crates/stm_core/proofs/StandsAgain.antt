@@ -44,7 +44,8 @@ stands_told p most first d m m1 b b1 o s w same ms f =
 pub good_now : {S : Type 0} {p : Prog S} {sound : Heap → List S → Type 0} {most : ℕ} {first d : DeviceState}
     {m : Meaning} {b : Books S} (s : SaneCore p sound most first d m b) →
     Good p (begin_with p (first_world first.input first.ends)) most (core_of s.stands.worlds m b)
-good_now {p = p} {most = most} {first = first} s = subst (Good p (begin_with p (first_world first.input first.ends)) most)
+good_now {p = p} {most = most} {first = first} s =
+    subst (Good p (begin_with p (first_world first.input first.ends)) most)
     s.stands.core s.stands.kept.good
 
 -- one call and then another

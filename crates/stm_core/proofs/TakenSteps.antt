@@ -260,7 +260,8 @@ module _ {S : Type 0} (p : Prog S) (most k : ℕ) (first d : DeviceState) (m : M
       let made : Advanced p most k m.segments steps r l o result z.state =
       subst (λ (q : Segment S). AdvancedFrom q p most k m.segments steps r l o result z.state) (sym (runs_in o s))
       z.is in
-      let led = advanced_led p (begin_with p (first_world first.input first.ends)) most k m.segments steps r l o z.state result
+      let led = advanced_led p (begin_with p (first_world first.input first.ends)) most k m.segments steps r l o
+      z.state result
       s.kept (stands_within p most first d m b o len s) made in (
         z.state,
         stands_after p most first d d1 m m1 b b2 o s z.state z.worlds led.0 led.1 z.core z.broken z.tells
@@ -285,7 +286,8 @@ doomed_led {S} p most k first d m b b1 f at set steps r l len o s =
     let made : Advanced p most k m.segments steps r l o (Err (Lost f)) o1 =
     subst (λ (q : Segment S). AdvancedFrom q p most k m.segments steps r l o (Err (Lost f)) o1) (sym there)
     (refl, (λ i. record o { core = gives i })) in
-    let led = advanced_led p (begin_with p (first_world first.input first.ends)) most k m.segments steps r l o o1 (Err (Lost f))
+    let led = advanced_led p (begin_with p (first_world first.input first.ends)) most k m.segments steps r l o o1
+    (Err (Lost f))
     s.kept (stands_within p most first d m b o len s) made in (
       o1,
       stands_after p most first d d m m b b1 o s o1 s.worlds led.0 led.1 refl (s.broken ∙ ap broken_of (sym eb))

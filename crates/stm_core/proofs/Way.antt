@@ -91,7 +91,10 @@ acts t e k me (SetMidLine b) f w u d p r d1 q then h o s =
     inr (acts_solo t e k me (SetMidLine b) w u d r d1 q o.0 (record w { mid = b })
     (ap (λ z. at_used (record w { mid = b }) true (sight k z)) h.0)
     (subst (λ (z : DeviceState). ShowsWorld t e z (record w { mid = b })) (sym o.1)
-    (let y = (s o.0).tells in record { tells = record { input = y.input; ends = y.ends; out = y.out; err = y.err }; mid = refl })))
+    (let y = (s o.0).tells in record {
+      tells = record { input = y.input; ends = y.ends; out = y.out; err = y.err };
+      mid = refl;
+    })))
 acts t e k me MidLine f w u d p r d1 q then h o s = elim (cases_Bool me.solo) [
   | inl solo ↦ inr (acts_solo t e k me MidLine w u d r d1 q solo w
       (o.0 ∙ sym (s solo).mid, ap (λ z. at_used w true (sight k z)) h.0)

@@ -242,7 +242,8 @@ impl<'p, C: Client, S: SegStore, I: Source, O: Sink, E: Sink> Core<'p, C, S, I, 
             (record { input = result.input; out = result.out; err = result.err; mid = false; was_mid = false }))
             result.state result.failed result.history.entries result.conflicts.entries (S.meaning result.store).image o o1
             × IsFullKept (S.reserved result.store) (S.meaning result.store).limit o1.core.cause }
-        ensures over { (o : Outer C.State) (s : RunState) → CoreStands I.state O.state E.state C.prog S.meaning self.entry o
+        ensures over { (o : Outer C.State) (s : RunState) →
+            CoreStands I.state O.state E.state C.prog S.meaning self.entry o
             → IsOutcome (C.prog (core_client self.entry)) (core_limits S.meaning self.entry).budget o.core s
             → s ≢ RunState.Running → result.state ≢ RunState.Running }
         ensures shape { ((S.meaning result.store).segments ≡ (core_limits S.meaning self.entry).segments)

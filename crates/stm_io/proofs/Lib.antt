@@ -1,1 +1,1 @@
-pub mod Line
+mod Line

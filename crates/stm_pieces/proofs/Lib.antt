@@ -1,14 +1,14 @@
-pub mod Coming
-pub mod Edits
-pub mod Laying
+mod Coming
+mod Edits
+mod Laying
 pub mod Lift
-pub mod Loaned
+mod Loaned
 pub mod Looks
-pub mod Naming
-pub mod Pairs
-pub mod Replaying
-pub mod Running
-pub mod Searches
-pub mod Turns
-pub mod Walk
-pub mod ScriptStands
+mod Naming
+mod Pairs
+mod Replaying
+mod Running
+mod Searches
+mod Turns
+mod Walk
+mod ScriptStands

@@ -1,4 +1,5 @@
--- A step over a part of a heap, which makes and starts nothing and leaves the devices alone, is one over each heap with that part.
+-- A step over a part of a heap, which makes and starts nothing and leaves the devices alone, is one over each heap with
+-- that part.
 use Rattle.std.proofs.Common.{◌≡◌, ℕ, true, false, ◌||◌, List, [], ◌++◌, Option, Some, None, IsSome, refl, sym, ◌∙◌, ap, inl, inr, append-nil}
 use Rattle.std.proofs.lemmas.Bool.{cases_Bool, both_ways, or_left, or_cases}
 use Rattle.py_data.specs.Heap.{Heap, Rec, Has}
@@ -35,7 +36,8 @@ there_part g h q a (Some r) e s = q a r e ∙ sym e
 pub same_there : (g h : Heap) → IsPart g h → (a : ℕ) → Has g a → h a ≡ g a
 same_there g h q a s = there_part g h q a (g a) refl s
 
-pub lift : {S A : Type 0} (row : Row S A) (s t z : Sight S) (b : A) → Does row s b t → Quiet s → Quiet t → IsPart s.heap z.heap → ((a : ℕ) → s.touched a ≡ true → Has s.heap a) → LiftedRow row z b t
+pub lift : {S A : Type 0} (row : Row S A) (s t z : Sight S) (b : A) → Does row s b t → Quiet s → Quiet t →
+    IsPart s.heap z.heap → ((a : ℕ) → s.touched a ≡ true → Has s.heap a) → LiftedRow row z b t
 lift {S} row s t z b d qs qt part there =
     let g = does_grows row s t b d in
     let fr : Frame S = record {
@@ -72,14 +74,19 @@ lift {S} row s t z b d qs qt part there =
       k.0,
       k.1,
       record {
-        part = λ a q e. elim (cases_Bool (t.touched a)) [ inl x ↦ r.inside a x ∙ e | inr x ↦ r.outside a x ∙ part a q (sym (g.same a x) ∙ e) ];
+        part = λ a q e. elim (cases_Bool (t.touched a)) [
+          | inl x ↦ r.inside a x ∙ e
+          | inr x ↦ r.outside a x ∙
+              part a q (sym (g.same a x) ∙ e)
+        ];
         changed = r.inside;
         others = r.outside;
         made = sym r.made ∙ (ap (λ xs. z.made ++ xs) qt.made ∙ append-nil z.made);
         started = sym r.started ∙ (ap (λ xs. z.started ++ xs) qt.started ∙ append-nil z.started);
         looked = r.looked;
         touched = r.touched;
-        used = λ e. elim (or_cases z.used t.used (r.used e)) [ inl x ↦ x | inr x ↦ absurd (both_ways t.used qt.unused x) ];
+        used = λ e. elim (or_cases z.used t.used (r.used e))
+            [ inl x ↦ x | inr x ↦ absurd (both_ways t.used qt.unused x) ];
         world = r.world_left qt.unused;
       },
     )

@@ -95,7 +95,8 @@ pub states_lent : (solo : Bool) (stopped : Option Stop) (terms terms1 : ℕ → 
     names1 ≡ names ++ a ∷ []
     → state_with terms1 heap1 base1 edits1 before1 names1 solo stopped
     ≡ with_loaned a.0 q locked (state_with terms heap base edits before names solo stopped)
-states_lent solo stopped terms terms1 heap base heap1 base1 edits edits1 before before1 names names1 a q locked t h b e k
+states_lent solo stopped terms terms1 heap base heap1 base1 edits edits1 before before1 names names1 a q
+    locked t h b e k
     n =
     let u : OnTerms = record { entry = q; most = length q.values; locked = locked } in
     λ i. record {

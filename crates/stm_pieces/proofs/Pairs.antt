@@ -12,23 +12,31 @@ pub record Checking (h : Heap) (vs : List Value) (n : ℕ) : Type 0 where
   pub all : ArePairs h (drop (2 * n) vs) → ArePairs h vs
   pub rest : ArePairs h vs → ArePairs h (drop (2 * n) vs)
 
-drop-two : (vs : List Value) (n : ℕ) → 2 * n + 1 < length vs → drop (2 * n) vs ≡ value_at vs (2 * n) ∷ value_at vs (2 * n + 1) ∷ drop (2 * (n + 1)) vs
+drop-two : (vs : List Value) (n : ℕ) → 2 * n + 1 < length vs → drop (2 * n) vs ≡ value_at vs (2 * n) ∷ value_at vs
+    (2 * n + 1) ∷ drop (2 * (n + 1)) vs
 drop-two vs n h =
     let two : 2 * (n + 1) ≡ suc (2 * n + 1) = omega arith in
     let one : 2 * n + 1 ≡ suc (2 * n) = add-one (2 * n) in
-    drop-cons vs (2 * n) Unset (omega arith) ∙ ap (λ t. value_at vs (2 * n) ∷ t) (ap (λ k. drop k vs) (sym one) ∙ drop-cons vs (2 * n + 1) Unset h ∙ ap (λ k. value_at vs (2 * n + 1) ∷ drop k vs) (sym two))
+    drop-cons vs (2 * n) Unset (omega arith) ∙ ap (λ t. value_at vs (2 * n) ∷ t)
+    (ap (λ k. drop k vs) (sym one) ∙ drop-cons vs (2 * n + 1) Unset h ∙
+    ap (λ k. value_at vs (2 * n + 1) ∷ drop k vs) (sym two))
 
 pub check-first : (h : Heap) (vs : List Value) → Checking h vs 0
-check-first h vs = let e : drop (2 * 0) vs ≡ vs = refl in record { all = λ p. subst (ArePairs h) e p; rest = λ p. subst (ArePairs h) (sym e) p }
+check-first h vs = let e : drop (2 * 0) vs ≡ vs = refl in
+    record { all = λ p. subst (ArePairs h) e p; rest = λ p. subst (ArePairs h) (sym e) p }
 
-pub check-next : (h : Heap) (vs : List Value) (n : ℕ) → Checking h vs n → 2 * n + 1 < length vs → IsKey h (value_at vs (2 * n)) → Checking h vs (n + 1)
+pub check-next : (h : Heap) (vs : List Value) (n : ℕ) → Checking h vs n → 2 * n + 1 < length vs →
+    IsKey h (value_at vs (2 * n)) → Checking h vs (n + 1)
 check-next h vs n c l k = record {
   all = λ p. c.all (subst (ArePairs h) (sym (drop-two vs n l)) (k, p));
-  rest = λ p. let q : ArePairs h (value_at vs (2 * n) ∷ value_at vs (2 * n + 1) ∷ drop (2 * (n + 1)) vs) = subst (ArePairs h) (drop-two vs n l) (c.rest p) in q.1;
+  rest = λ p. let q : ArePairs h (value_at vs (2 * n) ∷ value_at vs (2 * n + 1) ∷ drop (2 * (n + 1)) vs) =
+      subst (ArePairs h) (drop-two vs n l) (c.rest p) in q.1;
 }
 
-pub check-stops : (h : Heap) (vs : List Value) (n : ℕ) → Checking h vs n → 2 * n + 1 < length vs → (IsKey h (value_at vs (2 * n)) → ⊥) → ArePairs h vs → ⊥
-check-stops h vs n c l k p = let q : ArePairs h (value_at vs (2 * n) ∷ value_at vs (2 * n + 1) ∷ drop (2 * (n + 1)) vs) = subst (ArePairs h) (drop-two vs n l) (c.rest p) in k q.0
+pub check-stops : (h : Heap) (vs : List Value) (n : ℕ) → Checking h vs n → 2 * n + 1 < length vs →
+    (IsKey h (value_at vs (2 * n)) → ⊥) → ArePairs h vs → ⊥
+check-stops h vs n c l k p = let q : ArePairs h (value_at vs (2 * n) ∷ value_at vs (2 * n + 1) ∷ drop (2 * (n + 1)) vs)
+    = subst (ArePairs h) (drop-two vs n l) (c.rest p) in k q.0
 
 none-left : (h : Heap) (xs : List Value) → length xs ≡ 0 → ArePairs h xs
 none-left h [] e = tt

@@ -291,7 +291,12 @@ module _ {S X : Type 0} (state : X â†’ PieceState) (p : Prog S) (sound : Heap â†
                   q,
                   s.0,
                   s.1,
-                  record { lives = lives; outcome = Done; goes_on = done_not_waits; does = done_pure (p.row q) s.0 (Done, q1) e },
+                  record {
+                    lives = lives;
+                    outcome = Done;
+                    goes_on = done_not_waits;
+                    does = done_pure (p.row q) s.0 (Done, q1) e;
+                  },
                   subst (Î» h. NoLonger h d0.heap) (sym s.2.heap) s.2.within,
                 ),
                 s.2,
@@ -303,7 +308,8 @@ module _ {S X : Type 0} (state : X â†’ PieceState) (p : Prog S) (sound : Heap â†
               slice_set (ss ++ []) th q1,
               th,
               get_set (ss ++ []) th q1 (slice_get_within (ss ++ []) th q (get_front ss [] th q is)),
-              law ss th q i.heap some_world Done q1 first i.standing.3 is lives (done_pure (p.row q) first (Done, q1) e),
+              law ss th q i.heap some_world Done q1 first i.standing.3 is lives
+                  (done_pure (p.row q) first (Done, q1) e),
             );
           };
         }

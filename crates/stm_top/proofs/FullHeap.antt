@@ -60,7 +60,8 @@ pub full_heap : {S : Type 0} → BoundLaw S → EndLaw S → (p : Prog S) (l : L
     NearlyFullAt p l first.input first.ends o1.core
 full_heap {S} bound end p l first d s failed history conflicts image o o1 h good v w same e reserved m tells full =
     of_peaks p l first.input first.ends bound v o1.core reserved m.limit m h.kept.good
-    (subst (λ (z : Outer S). AreExplained p (begin_with p (first_world first.input first.ends)) l.length l.segments v z.core)
+    (subst (λ (z : Outer S). AreExplained p (begin_with p (first_world first.input first.ends)) l.length
+    l.segments v z.core)
     (sym h.idle) (at_end p l first.input first.ends end v o h.settled good e h.settles))
     (subst (λ z. IfSome z (IsTelling reserved m)) same tells) full
 
@@ -69,7 +70,8 @@ new_explained : {S : Type 0} → NewLaw S → (p : Prog S) (input : Option (List
     (v : Option (ℕ → ℕ)) (f : ℕ → ℕ) → v ≡ Some f → ((c : ℕ) → f c ≡ 0) →
     AreExplained p (begin_with p (first_world input ends)) most segments v (core_new p (first_world input ends))
 new_explained law p input ends most segments v f is none =
-    subst (λ z. AreExplained p (begin_with p (first_world input ends)) most segments z (core_new p (first_world input ends)))
+    subst (λ z. AreExplained p (begin_with p (first_world input ends)) most segments z
+    (core_new p (first_world input ends)))
     (sym is) (law p (first_world input ends) most segments f none)
 
 -- in the words of what the core tells of its client and its source
@@ -79,7 +81,9 @@ pub made_explained : {S C I : Type 0} → NewLaw S → (prog : C → Prog S) (in
     (core_new (prog c) (first_world (input i).told (input i).ends))
 made_explained law prog input c d i j client source most segments v f is none =
     let core = core_new (prog c) (first_world (input i).told (input i).ends) in
-    subst (λ z. AreExplained (prog z) (begin_with (prog z) (first_world (input j).told (input j).ends)) most segments v core)
+    subst (λ z. AreExplained (prog z) (begin_with (prog z) (first_world (input j).told (input j).ends)) most
+    segments v core)
     (sym client)
-    (subst (λ z. AreExplained (prog c) (begin_with (prog c) (first_world (input z).told (input z).ends)) most segments v core)
+    (subst (λ z. AreExplained (prog c) (begin_with (prog c) (first_world (input z).told (input z).ends)) most
+    segments v core)
     (sym source) (new_explained law (prog c) (input i).told (input i).ends most segments v f is none))

@@ -93,7 +93,8 @@ module _ {S : Type 0} (p : Prog S) (l : Limits) (a b : Devices) (mid was : Bool)
       machine = committed o1.core;
       run = h.kept.good.run;
       told = o1.told;
-      ended = ended_at p (begin_with p (first_world a.input.told a.input.ends)) l.length o1 h.kept (idle_at s history conflicts h)
+      ended = ended_at p (begin_with p (first_world a.input.told a.input.ends)) l.length o1 h.kept
+          (idle_at s history conflicts h)
           o1.broken refl;
       input_left = sym h.tells.input;
       ends = sym h.tells.ends;
@@ -106,7 +107,8 @@ module _ {S : Type 0} (p : Prog S) (l : Limits) (a b : Devices) (mid was : Bool)
 
     whole : o1.core.cause ≡ None → IsWhole run_of.ended
     unfolding run_of
-    whole n = whole_at p (begin_with p (first_world a.input.told a.input.ends)) l.length o1 h.kept (idle_at s history conflicts h)
+    whole n = whole_at p (begin_with p (first_world a.input.told a.input.ends)) l.length o1 h.kept
+        (idle_at s history conflicts h)
         o1.broken refl n
 
     cut_by : (d : Cause) → o1.core.cause ≡ Some d → is_device d ≡ true → IsCutBy d run_of.ended
@@ -116,7 +118,8 @@ module _ {S : Type 0} (p : Prog S) (l : Limits) (a b : Devices) (mid was : Bool)
 
     lives : (d : Cause) → o1.core.cause ≡ Some d → SomeLives p run_of.machine
     unfolding run_of
-    lives d c = lives_on p (begin_with p (first_world a.input.told a.input.ends)) l.length o1 h.kept (idle_at s history conflicts h)
+    lives d c = lives_on p (begin_with p (first_world a.input.told a.input.ends)) l.length o1 h.kept
+        (idle_at s history conflicts h)
         d c
 
     rose_with : (d : Cause) → o1.core.cause ≡ Some d → CauseRose (Some d) (telling a mid was) (telling b false false)
@@ -160,7 +163,8 @@ module _ {S : Type 0} (p : Prog S) (l : Limits) (a b : Devices) (mid was : Bool)
 -- how it ended, where the thread 0 failed or not
 module _ {S : Type 0} (p : Prog S) (l : Limits) (a b : Devices) (mid was : Bool) (m : Meaning) (reserved : ℕ)
     (o o1 : Outer S) (full : IsFullKept reserved m.limit o1.core.cause) (words : m.limit ≡ l.words)
-    (nearly : NearlyFullAt p l a.input.told a.input.ends o1.core) (history : List Turn) (conflicts : List Conflict) where
+    (nearly : NearlyFullAt p l a.input.told a.input.ends o1.core) (history : List Turn)
+    (conflicts : List Conflict) where
   abbrev EndsWith : (s : RunState) (failed : Bool) → HandedOut p l.length l.budget l.segments (telling a mid was)
       (telling b false false) s failed history conflicts m.image o o1 → Answer → Type 0
   EndsWith s failed h answer = RunEnded l (Some reserved) answer (faults_of a) (faults_of b)
@@ -193,7 +197,8 @@ pub handed_over : {S : Type 0} (p : Prog S) (l : Limits) (a b : Devices) (mid wa
     (o o1 : Outer S) (s : RunState) (failed : Bool) (t : Told) (answer : Answer)
     → HandedOut p l.length l.budget l.segments (telling a mid was) (telling b false false) s failed t.history
     t.conflicts m.image o o1
-    → IsFullKept reserved m.limit o1.core.cause → NearlyFullAt p l a.input.told a.input.ends o1.core → m.segments ≡ l.segments →
+    → IsFullKept reserved m.limit o1.core.cause → NearlyFullAt p l a.input.told a.input.ends o1.core →
+    m.segments ≡ l.segments →
     m.limit ≡ l.words → ((j : ℕ) → IsUnused (m.part j)) → t.store ≡ Some m → t.reserved ≡ Some reserved →
     AnswerTo s failed t.history answer → RunEnds p l answer a t b
 unfolding run_of

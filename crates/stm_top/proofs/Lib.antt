@@ -1,6 +1,6 @@
-pub mod FullHeap
-pub mod HandedOver
+mod FullHeap
+mod HandedOver
 mod OneAnswer
 mod SomeAnswer
-pub mod Taking
-pub mod TopSteps
+mod Taking
+mod TopSteps

@@ -93,7 +93,8 @@ rose_after a b c l r = omega (arith, l, r)
 
 -- the source counted no fewer failures after the script was taken than before
 earlier : (answer : Answer) {input : SourceState} {out err : Option (List ℕ)} {history : List Turn}
-    {conflicts : List Conflict} {input1 : SourceState} {out1 err1 : Option (List ℕ)} {S : Type 0} {p : Prog S} {n : ℕ} (l : Limits) (w : Option ℕ)
+    {conflicts : List Conflict} {input1 : SourceState} {out1 err1 : Option (List ℕ)} {S : Type 0} {p : Prog S} {n : ℕ}
+    (l : Limits) (w : Option ℕ)
     (a a1 b : Faults) (r : Serial p n input out err history conflicts input1 out1 err1)
     → a.input ≤ a1.input → a1.out ≡ a.out → a1.err ≡ a.err → RunEnded l w answer a1 b r → RunEnded l w answer a b r
 earlier Done l w a a1 b r i o e h = h

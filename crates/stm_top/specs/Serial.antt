@@ -26,7 +26,8 @@ pub data Ended {S : Type 0} (p : Prog S) (first : Machine S) (history : List Tur
 -- turn is longer than `length`. Each transaction that was aborted had lost a conflict that stood, once, and was not
 -- inevitable.
 pub record Serial {S : Type 0} (p : Prog S) (length : ℕ) (input : SourceState) (out err : Option (List ℕ))
-    (history : List Turn) (conflicts : List Conflict) (input1 : SourceState) (out1 err1 : Option (List ℕ)) : Type 0 where
+    (history : List Turn) (conflicts : List Conflict) (input1 : SourceState) (out1 err1 : Option (List ℕ))
+    : Type 0 where
   pub machine : Machine S
   pub run : Runs p (begin_with p (first_world input.told input.ends)) history machine
   pub told : World

@@ -102,7 +102,8 @@ HasReserved words reserved = (most : ℕ) × (reserved ≡ Some most) × (words 
 -- why a run came to its end, with the words that the report's store has reserved, and the counts of failures before the
 -- run and after it
 abbrev pub RunEnded : {S : Type 0} {p : Prog S} {length : ℕ} {input : SourceState} {out err : Option (List ℕ)}
-    {history : List Turn} {conflicts : List Conflict} {input1 : SourceState} {out1 err1 : Option (List ℕ)} → Limits → Option ℕ → Answer → Faults → Faults
+    {history : List Turn} {conflicts : List Conflict} {input1 : SourceState} {out1 err1 : Option (List ℕ)} → Limits →
+    Option ℕ → Answer → Faults → Faults
     → Serial p length input out err history conflicts input1 out1 err1 → Type 0
 RunEnded {p = p} l w Done a b r = IsWhole r.ended × IsDone p r.machine × (FirstFailed p r.machine → ⊥)
 RunEnded {p = p} l w Failed a b r = IsWhole r.ended × IsDone p r.machine × FirstFailed p r.machine

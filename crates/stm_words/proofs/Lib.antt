@@ -1,12 +1,12 @@
-pub mod Meaning
-pub mod Rows
-pub mod Walking
-pub mod Forms
-pub mod Steps
-pub mod Taken
-pub mod Made
-pub mod Numerals
-pub mod Texts
-pub mod Within
-pub mod Reach
+mod Meaning
+mod Rows
+mod Walking
+mod Forms
+mod Steps
+mod Taken
+mod Made
+mod Numerals
+mod Texts
+mod Within
+mod Reach
 mod Samples

@@ -23,7 +23,8 @@ source_behind_dashes = refl
 file_behind_dashes : options_of (codes "--" ∷ codes "--demo=7" ∷ []) ≡ usual (File (codes "--demo=7"))
 file_behind_dashes = refl
 
-numbers : options_of (codes "--segments=8" ∷ codes "-" ∷ codes "--pages" ∷ codes "65536" ∷ codes "--length=1" ∷ codes "--budget" ∷ codes "1000000000000000" ∷ [])
+numbers : options_of (codes "--segments=8" ∷ codes "-" ∷ codes "--pages" ∷ codes "65536" ∷ codes "--length=1" ∷ codes
+    "--budget" ∷ codes "1000000000000000" ∷ [])
     ≡ Some (record { script = Source; segments = 8; length = 1; pages = 65536; budget = 1000000000000000 })
 numbers = refl
 

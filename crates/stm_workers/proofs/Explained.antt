@@ -36,7 +36,8 @@ module _ {C S I O E T : Type 0} (input : I → SourceState) (out : O → SinkSta
     (prog : C → Prog T) (meaning : S → Meaning) (peaks : S → Option (ℕ → ℕ)) (x y : Core C S I O E T)
     (job : SameJob meaning x y) where
   abbrev pub StartOf : Core C S I O E T → Machine T
-  StartOf z = begin_with (prog (core_client z)) (first_world (first_devices input out err z).input (first_devices input out err z).ends)
+  StartOf z = begin_with (prog (core_client z))
+      (first_world (first_devices input out err z).input (first_devices input out err z).ends)
 
   abbrev pub Explained : (ℕ → ℕ) → CoreState T → Type 0
   Explained f c = IsExplained (prog (core_client x)) (StartOf x) (core_limits meaning x).length
@@ -50,7 +51,8 @@ module _ {C S I O E T : Type 0} (input : I → SourceState) (out : O → SinkSta
       (core_limits meaning y).segments v c
   by_job v c e =
       let from = λ (l : Limits) (z : C) (d : Devices I O E).
-      AreExplained (prog z) (begin_with (prog z) (first_world (input d.input).told (input d.input).ends)) l.length l.segments v c in
+      AreExplained (prog z) (begin_with (prog z) (first_world (input d.input).told (input d.input).ends)) l.length
+      l.segments v c in
       subst (λ d. from (core_limits meaning y) (core_client y) d.value) (sym job.made_with)
       (subst (λ z. from (core_limits meaning y) z x.made_with.value) (sym job.client)
       (subst (λ l. from l (core_client x) x.made_with.value) (sym job.limits) e))

@@ -1,6 +1,6 @@
-pub mod Explained
-pub mod Growing
-pub mod Installed
-pub mod Jobs
-pub mod Joined
+mod Explained
+mod Growing
+mod Installed
+mod Jobs
+mod Joined
 pub mod Sent

@@ -26,7 +26,8 @@ module _ {C S I O E T : Type 0} (input : I → SourceState) (out : O → SinkSta
   -- in this state of a core the peaks of its store are explained, from the machine on with which its run began
   abbrev pub HasExplained : Core C S I O E T → Outer T → Type 0
   HasExplained x o = AreExplained (prog (core_client x))
-      (begin_with (prog (core_client x)) (first_world (first_devices input out err x).input (first_devices input out err x).ends))
+      (begin_with (prog (core_client x))
+      (first_world (first_devices input out err x).input (first_devices input out err x).ends))
       (core_limits meaning x).length (core_limits meaning x).segments (peaks (core_store x)) o.core
 
   -- Each state for which the one core stands leads so to one for which the other stands, in which the peaks are

@@ -1,2 +1,2 @@
-pub mod There
-pub mod PairsLeft
+mod There
+mod PairsLeft

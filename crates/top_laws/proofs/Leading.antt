@@ -44,7 +44,14 @@ ToldAt a b w _ = Unit {0}
 
 left_by : {S : Type 0} (a b : Devices) (s : SinkState) (m : Machine S) (text : List ℕ) →
     ToldBy a (record b { err = s }) m.world → TextPut text s b.err → LeftBy a text b m
-left_by a b s m text h put = record { input = h.input; ends = h.ends; out = h.out; err_before = s; errors = h.err; put = put }
+left_by a b s m text h put = record {
+  input = h.input;
+  ends = h.ends;
+  out = h.out;
+  err_before = s;
+  errors = h.err;
+  put = put;
+}
 
 left_silent : {S : Type 0} (a b : Devices) (s : SinkState) (m : Machine S) (text : List ℕ) →
     ToldBy a (record b { err = s }) m.world → text ≡ [] → TextPut text s b.err →
@@ -114,7 +121,8 @@ module _ {P S : Type 0} (is_code : List ℕ → P → Type 0) (refused : List �
       IsWhole r.serial.ended → ToldBy a b r.serial.machine.world
   serial_told o a t b r whole =
       let s = r.serial in
-      let k = whole_told (rows r.program) (begin_with (rows r.program) (first_world r.source.told r.source.ends)) t.history
+      let k = whole_told (rows r.program)
+      (begin_with (rows r.program) (first_world r.source.told r.source.ends)) t.history
       s.machine.world s.told s.ended whole in
       let own : ToldBy a b s.told = record { input = s.input_left; ends = s.ends; out = s.output; err = s.errors } in
       subst (λ (w : World). ToldBy a b w) k own
@@ -149,7 +157,8 @@ module _ {P S : Type 0} (is_code : List ℕ → P → Type 0) (refused : List �
             r.serial.machine x) k.ends
             (subst (λ (i : Option (List ℕ)). FullAt (rows p) all (begin_with (rows p) (first_world i r.source.ends))
             t.history r.serial.machine x) k.rest
-            (subst (λ (q : P). FullAt (rows q) all (begin_with (rows q) (first_world r.source.told r.source.ends)) t.history
+            (subst (λ (q : P). FullAt (rows q) all
+            (begin_with (rows q) (first_world r.source.told r.source.ends)) t.history
             r.serial.machine x) k.program own)));
         counts = run_counts (rows r.program) o.length r.source a.out.told a.err.told t.history t.conflicts
             b.input b.out.told b.err.told (limits_of o) a b r.serial x h.1;

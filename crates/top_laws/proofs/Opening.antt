@@ -32,8 +32,10 @@ fact (Holds x) = x
 -- ---- the end of a run
 
 -- at each status
-abbrev pub EndedAt : {S : Type 0} {p : Prog S} {length : ℕ} {input : SourceState} {out err : Option (List ℕ)} {history : List Turn}
-    {conflicts : List Conflict} {input1 : SourceState} {out1 err1 : Option (List ℕ)} → Status → Limits → Faults → Faults →
+abbrev pub EndedAt : {S : Type 0} {p : Prog S} {length : ℕ} {input : SourceState} {out err : Option (List ℕ)}
+    {history : List Turn}
+    {conflicts : List Conflict} {input1 : SourceState} {out1 err1 : Option (List ℕ)} → Status → Limits →
+    Faults → Faults →
     Serial p length input out err history conflicts input1 out1 err1 → Type 0
 EndedAt {p = p} Done l a b r = IsWhole r.ended × IsDone p r.machine × (FirstFailed p r.machine → ⊥)
 EndedAt {p = p} Failed l a b r = IsWhole r.ended × IsDone p r.machine × FirstFailed p r.machine
@@ -85,7 +87,8 @@ module _ {P S : Type 0} (is_code : List ℕ → P → Type 0) (refused : List �
 
     full : (o : Options) (r : Ran is_code refused rows o a t b) (limit : ℕ) → options_of words ≡ Some o →
         SomeLives (rows r.program) r.serial.machine → limit ≡ (limits_of o).words →
-        IsNearlyFull (rows r.program) (begin_with (rows r.program) (first_world r.source.told r.source.ends)) o.length o.segments
+        IsNearlyFull (rows r.program) (begin_with (rows r.program) (first_world r.source.told r.source.ends))
+        o.length o.segments
         limit t.history r.serial.machine.heap → Fact (CausedIn HeapFull words text a t b)
     full o r limit e lives is nearly = Holds (
       o,
@@ -94,7 +97,8 @@ module _ {P S : Type 0} (is_code : List ℕ → P → Type 0) (refused : List �
         r,
         (
           lives,
-          subst (λ n. IsNearlyFull (rows r.program) (begin_with (rows r.program) (first_world r.source.told r.source.ends)) o.length
+          subst (λ n. IsNearlyFull (rows r.program)
+              (begin_with (rows r.program) (first_world r.source.told r.source.ends)) o.length
               o.segments n t.history r.serial.machine.heap) is nearly,
         ),
       ),

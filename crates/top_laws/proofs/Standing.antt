@@ -24,20 +24,24 @@ use Rattle.top_laws.proofs.Keeping.{cut_lives}
 
 -- ---- the run's end
 
-pub run_stands : {S : Type 0} (p : Prog S) (length : ℕ) (input : SourceState) (out err : Option (List ℕ)) (history : List Turn)
+pub run_stands : {S : Type 0} (p : Prog S) (length : ℕ) (input : SourceState) (out err : Option (List ℕ))
+    (history : List Turn)
     (conflicts : List Conflict) (input1 : SourceState) (out1 err1 : Option (List ℕ)) (l : Limits) (f g : Faults)
     (r : Serial p length input out err history conflicts input1 out1 err1) (x : Status) → IsSome input.told →
     EndedAt x l f g r → StandsAt p l.budget history r.machine x
 run_stands p length input out err history conflicts input1 out1 err1 l f g r status.Done k h = (h.1, h.2)
 run_stands p length input out err history conflicts input1 out1 err1 l f g r status.Failed k h = (h.1, h.2)
 run_stands p length input out err history conflicts input1 out1 err1 l f g r status.InputFailed k h =
-    cut_lives p (begin_with p (first_world input.told input.ends)) history r.machine r.machine.world r.told ReadFault r.ended k r.run
+    cut_lives p (begin_with p (first_world input.told input.ends)) history r.machine r.machine.world r.told ReadFault
+    r.ended k r.run
     h.0
 run_stands p length input out err history conflicts input1 out1 err1 l f g r status.OutputFailed k h =
-    cut_lives p (begin_with p (first_world input.told input.ends)) history r.machine r.machine.world r.told WriteFault r.ended k r.run
+    cut_lives p (begin_with p (first_world input.told input.ends)) history r.machine r.machine.world r.told WriteFault
+    r.ended k r.run
     h.0
 run_stands p length input out err history conflicts input1 out1 err1 l f g r status.ErrorOutputFailed k h =
-    cut_lives p (begin_with p (first_world input.told input.ends)) history r.machine r.machine.world r.told ErrFault r.ended k r.run
+    cut_lives p (begin_with p (first_world input.told input.ends)) history r.machine r.machine.world r.told ErrFault
+    r.ended k r.run
     h.0
 run_stands p length input out err history conflicts input1 out1 err1 l f g r status.HeapFull k h = h.0
 run_stands p length input out err history conflicts input1 out1 err1 l f g r status.Stuck k h = h.1
@@ -50,7 +54,8 @@ abbrev pub FullAt : {S : Type 0} → Prog S → Limits → Machine S → List Tu
 FullAt p l first history m status.HeapFull = IsNearlyFull p first l.length l.segments l.words history m.heap
 FullAt p l first history m _ = Unit {0}
 
-pub run_full : {S : Type 0} (p : Prog S) (length : ℕ) (input : SourceState) (out err : Option (List ℕ)) (history : List Turn)
+pub run_full : {S : Type 0} (p : Prog S) (length : ℕ) (input : SourceState) (out err : Option (List ℕ))
+    (history : List Turn)
     (conflicts : List Conflict) (input1 : SourceState) (out1 err1 : Option (List ℕ)) (l : Limits) (f g : Faults)
     (r : Serial p length input out err history conflicts input1 out1 err1) (x : Status) → EndedAt x l f g r →
     FullAt p l (begin_with p (first_world input.told input.ends)) history r.machine x
@@ -64,7 +69,8 @@ CountAt a b status.OutputFailed = Rose a.out.faults b.out.faults
 CountAt a b status.ErrorOutputFailed = Rose a.err.faults b.err.faults
 CountAt a b _ = Unit {0}
 
-pub run_counts : {S : Type 0} (p : Prog S) (length : ℕ) (input : SourceState) (out err : Option (List ℕ)) (history : List Turn)
+pub run_counts : {S : Type 0} (p : Prog S) (length : ℕ) (input : SourceState) (out err : Option (List ℕ))
+    (history : List Turn)
     (conflicts : List Conflict) (input1 : SourceState) (out1 err1 : Option (List ℕ)) (l : Limits) (a b : Devices)
     (r : Serial p length input out err history conflicts input1 out1 err1) (x : Status) →
     EndedAt x l (faults_of a) (faults_of b) r → CountAt a b x

@@ -133,7 +133,8 @@ AtComplete p m _ = ⊥
 
 -- ---- what the devices are left with
 
--- The devices are left as the machine says: the input with its count of ends, the output, and the error output, to which the text was put
+-- The devices are left as the machine says: the input with its count of ends, the output, and the error output, to
+-- which the text was put
 -- last.
 pub record LeftBy {S : Type 0} (a : Devices) (text : List ℕ) (b : Devices) (m : Machine S) : Type 0 where
   pub input : b.input.told ≡ m.world.input

@@ -49,7 +49,8 @@ pub record Leads {P S : Type 0} (is_code : List ℕ → P → Type 0) (rows : P 
   pub is : is_code text program
   pub rest : List ℕ
   pub input : IsInputOf script rest a
-  pub run : Runs (rows program) (begin_with (rows program) (first_world (Some rest) (ends_behind script a))) history machine
+  pub run : Runs (rows program) (begin_with (rows program) (first_world (Some rest) (ends_behind script a)))
+      history machine
 
 -- the machine with which its threads begin, over that input
 abbrev pub start_of : {P S : Type 0} {is_code : List ℕ → P → Type 0} {rows : P → Prog S} {script : Script} {a : Devices}

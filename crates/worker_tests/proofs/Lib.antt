@@ -1,1 +1,1 @@
-pub mod TurnsLaws
+mod TurnsLaws

@@ -20,7 +20,8 @@ OuterDoes me (Put ErrorOutput bytes) p r q =
     (me.solo ≡ true) × (q ≡ record p { err = grown p.err bytes; errs = q.errs }) × (p.errs ≤ q.errs)
 OuterDoes me (Take most) p l q =
     (me.solo ≡ true) × IsLine p.input most l × (length l ≤ most) ×
-    (q ≡ record p { input = shrunk p.input (length l); ends = ends_after l p.ends; reads = q.reads }) × (p.reads ≤ q.reads)
+    (q ≡ record p { input = shrunk p.input (length l); ends = ends_after l p.ends; reads = q.reads }) ×
+    (p.reads ≤ q.reads)
 OuterDoes me MidLine p b q = (b ≡ p.mid) × (q ≡ p)
 OuterDoes me (SetMidLine b) p r q = (me.solo ≡ true) × (q ≡ record p { mid = b })
 OuterDoes me c p r q = q ≡ p

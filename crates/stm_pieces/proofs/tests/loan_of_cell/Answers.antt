@@ -14,4 +14,5 @@ returns-clause-stands c = cell_stands _ _ 0 c.args.done _ _ c.in_ok-one_value.fi
     ap (λ (cells : List Addr). Acts 0 c.args.done cells (record { 0 = 2 })) c.in_ok-from_slice.ensures)
     (ap (λ (z : PieceState). z.heap 1) c.in_ok-add.ensures.ok)
     (search rules)
-    (ap (λ (z : PieceState). z.heap 2) c.in_ok-add.ensures.ok ∙ ap (λ (z : PieceState). z.heap 2) c.new-loan.ensures.view)
+    (ap (λ (z : PieceState). z.heap 2) c.in_ok-add.ensures.ok ∙
+    ap (λ (z : PieceState). z.heap 2) c.new-loan.ensures.view)

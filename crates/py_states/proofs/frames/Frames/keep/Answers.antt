@@ -13,7 +13,8 @@ returns-then-i-head c =
     let set : List Value → List Value = λ z. slice_set z (c.in-Some.head.base + c.args.i) c.args.x in
     let values = c.set.ensures ∙ ap set c.truncate.ensures.entries in
     (λ j. laid (c.move_top.ensures.entries j) (values j) bs)
-    ∙ (kept_laid c.in-Some.head _ c.args.n c.args.i c.args.pc c.left_above.result c.args.x _ bs c.in-Some.ensures c.self.invariant
+    ∙ (kept_laid c.in-Some.head _ c.args.n c.args.i c.args.pc c.left_above.result c.args.x _ bs c.in-Some.ensures
+    c.self.invariant
     (omega (arith, c.left_above.ensures, c.len-values.ensures)) c.if-i-head.true
     ∙ ap (λ (z : Framed). on_top (λ f. stored c.args.i c.args.x (advanced c.args.n [] c.args.pc f)) z.frames)
     c.self.view_is)
@@ -22,7 +23,8 @@ pub returns-else-i-head : goal.returns-else-i-head
 returns-else-i-head c =
     let bs = c.self.inside.blocks.entries in
     (λ j. laid (c.move_top.ensures.entries j) (c.truncate.ensures.entries j) bs)
-    ∙ (not_kept_laid c.in-Some.head _ c.args.n c.args.i c.args.pc c.left_above.result c.args.x _ bs c.in-Some.ensures c.self.invariant
+    ∙ (not_kept_laid c.in-Some.head _ c.args.n c.args.i c.args.pc c.left_above.result c.args.x _ bs c.in-Some.ensures
+    c.self.invariant
     (omega (arith, c.left_above.ensures, c.len-values.ensures)) c.if-i-head.false
     ∙ ap (λ (z : Framed). on_top (λ f. stored c.args.i c.args.x (advanced c.args.n [] c.args.pc f)) z.frames)
     c.self.view_is)

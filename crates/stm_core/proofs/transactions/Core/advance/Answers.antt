@@ -86,7 +86,11 @@ returns-in-Doomed g c =
           g.S.SegStore.reserved g.S.SegStore.meaning x y _ q c.requires.good;
       advanced = quiet_leads g.I.Source.state g.O.Sink.state g.E.Sink.state g.C.Client.prog g.C.Client.sound
           g.S.SegStore.reserved g.S.SegStore.meaning x y _ q c.requires.good;
-      counted = record { counts = counts_same (core_devices g.I.Source.state g.O.Sink.state g.E.Sink.state x); rose = tt };
+      counted = record {
+        counts = counts_same
+            (core_devices g.I.Source.state g.O.Sink.state g.E.Sink.state x);
+        rose = tt;
+      };
       peaks = λ o s. within_same p x.length (m.limit / 2) m.segments c.args.k o.core _ _ refl;
     }
 

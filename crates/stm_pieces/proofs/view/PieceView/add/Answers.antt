@@ -18,7 +18,8 @@ returns-in-Ok-clause-ok c =
     let r = c.args.r in
     let more = c.in-Ok.ensures.ok in
     states_lent v.solo v.stopped (terms_of v.records) (terms_of l) (lent_heap v.records) (lent_base v.records)
-    (lent_heap l) (lent_base l) (all_edits v.edits) (all_edits c.open-2.new.self) (kept_edits v.edits) (kept_edits c.open-2.new.self)
+    (lent_heap l) (lent_base l) (all_edits v.edits) (all_edits c.open-2.new.self) (kept_edits v.edits)
+    (kept_edits c.open-2.new.self)
     v.records.names.items l.names.items c.args.a r c.args.locked
     (more.terms ∙ ap (λ f. but_at f c.args.a.0
     (Some (record { entry = r; most = length r.values; locked = c.args.locked }))) c.open.ensures.terms)

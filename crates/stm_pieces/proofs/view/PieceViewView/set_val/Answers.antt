@@ -4,7 +4,8 @@ use Rattle.stm_pieces.proofs.Edits.{edit_asks, edit_answers}
 use Rattle.stm_pieces.proofs.view.PieceViewView.set_val.Goals as goal
 
 pub edit-requires : goal.edit-requires
-edit-requires g c = edit_asks g.row.S.Denot (piece_state c.args.self.now).heap c.args.a.0 (Set c.args.i c.args.v) c.requires.there
+edit-requires g c = edit_asks g.row.S.Denot (piece_state c.args.self.now).heap c.args.a.0 (Set c.args.i c.args.v)
+    c.requires.there
 
 pub returns : goal.returns
 returns g c = edit_answers g.row.S.Denot piece_state c.args.self.now c.edit.new.self c.requires.live c.args.a.0
