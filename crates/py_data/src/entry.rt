@@ -73,7 +73,13 @@ impl Entry {
         requires values { length values.items ≤ LENGTH_LIMIT }
         requires bytes { length bytes ≤ LENGTH_LIMIT }
         requires roomy { has_rooms kind ≡ true → length values.items ≤ room }
-        ensures { IfOk result (λ e. e ≡ record { kind = kind; values = values.items; bytes = bytes; room = room; first = first }) }
+        ensures { IfOk result (λ e. e ≡ record {
+          kind = kind;
+          values = values.items;
+          bytes = bytes;
+          room = room;
+          first = first;
+        }) }
     {
         let more = room.saturating_sub(values.len());
         values.reserve_exact(more)?;

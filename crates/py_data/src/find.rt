@@ -18,7 +18,8 @@ pub trait Records {
 
 /// The bytes of the string at an address, if a string is there.
 fn text<R: Records>(heap: &R, a: u32) -> Option<&[u8]>
-    ensures { MatchOption result (text_in (R.records heap.now a) ≡ None) (λ b. text_in (R.records heap.now a) ≡ Some b.now) }
+    ensures { MatchOption result (text_in (R.records heap.now a) ≡ None)
+        (λ b. text_in (R.records heap.now a) ≡ Some b.now) }
 {
     match heap.record(a) {
         Some(r) => match r.kind() {

@@ -90,7 +90,8 @@ pub trait View<S> {
         requires live { IsLive sense self.old }
         requires there { IfThere sense.partial (sense.heap self.old a.0) (λ r. from + length out.old ≤ length r.bytes) }
         ensures look { Shows sense a.0 (λ r. tt) self.old self.new result }
-        ensures bytes { IfOk result (λ _. out.new ≡ take (length out.old) (drop from (at (sense.heap self.old) a.0).bytes)) };
+        ensures bytes { IfOk result (λ _. out.new ≡ take (length out.old)
+            (drop from (at (sense.heap self.old) a.0).bytes)) };
 
     /// The least number of a pair, from 0, whose key equals `key`.
     fn find_key(&mut self, d: Addr, key: Value) -> Result<Option<usize>, Stop>
