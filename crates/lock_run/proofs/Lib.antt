@@ -1,12 +1,11 @@
-pub mod Back
-pub mod Naming
+mod Naming
 pub mod Following
 pub mod Stepping
-pub mod IsPlainView
-pub mod Turning
-pub mod Ready
+mod IsPlainView
+mod Turning
+mod Ready
 pub mod StepsMirror
 pub mod Along
-pub mod Accept
-pub mod ScriptRecords
-pub mod ScriptSteps
+mod Accept
+mod ScriptRecords
+mod ScriptSteps

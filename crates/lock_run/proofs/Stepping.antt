@@ -285,7 +285,8 @@ module _ {S : Type 0} (p : Prog S) (t k : ℕ) (names : List ℕ) (o e : Option 
       elim rf.1.0 [
         | inl h ↦ absurd (let q : true ≡ false = sym bd ∙ h ∙ kp.bad in cc)
         | inr h ↦ (
-          cut_still (Do (Make q) f) y x w d1 up sh kp rf.0.base rf.0.was_mid rf.1.2.same rf.1.3.same rf.1.1.same rf.1.1.ends un,
+          cut_still (Do (Make q) f) y x w d1 up sh kp rf.0.base rf.0.was_mid rf.1.2.same rf.1.3.same rf.1.1.same
+              rf.1.1.ends un,
           made_part x w d1 rf.0.kept kp un,
           (
             ls,
@@ -352,7 +353,8 @@ module _ {S : Type 0} (p : Prog S) (t k : ℕ) (names : List ℕ) (o e : Option 
         cut_part (Do (Put ErrorOutput bytes) f) y (wrote ErrorOutput (take h.0.0 bytes) y.world) x w d1 up kp rf.0.base
             rf.0.was_mid
             (rf.1.2.same ∙ sh.out) (h.0.1 ∙ ap (λ l. grown l (take h.0.0 bytes)) sh.err ∙
-            grown_then e y.world.err (take h.0.0 bytes)) (rf.1.1.same ∙ sym sh.input) (rf.1.1.ends ∙ sym sh.ends) un (h.0.0, refl),
+            grown_then e y.world.err (take h.0.0 bytes)) (rf.1.1.same ∙ sym sh.input) (rf.1.1.ends ∙ sym sh.ends) un
+            (h.0.0, refl),
         made_part x w d1 rf.0.kept kp un,
         (ls, bytes, (f, refl), rose_by d0.errs x.errs w.errs d1.errs l h.1 (ap (λ z. z.errs) un)),
         begins_part x w d1 rf.0.free kp un,
@@ -518,7 +520,8 @@ sound_after {S} p sound law u b D i ts t s s1 c v w so gs ls st =
     subst (λ l. sound (D w).heap l) (set_front ts (D w).started t s s1 gs)
     (subst (λ (h : Heap). sound h (slice_set (ts ++ (D w).started) t s1)) hy
     (subst (λ (l : List S). sound y.heap (slice_set (ts ++ l) t s1)) sy
-    (law ts t s d.heap (record { input = d.input; ends = d.ends; out = []; err = []; mid = d.mid }) c s1 y so gs ls f.does)))
+    (law ts t s d.heap (record { input = d.input; ends = d.ends; out = []; err = []; mid = d.mid }) c s1 y so
+    gs ls f.does)))
 
 -- what is taken back is as before
 pub undone_run : {S X : Type 0} (p : Prog S) (u : Sense S X) (b : Bracket S X) (D : X → PlainState S)

@@ -99,7 +99,15 @@ module _ {S : Type 0} (p : Prog S) (thread : ℕ) (a : LockState S) (d1 : PlainS
         let names : g.sight.made ≡ places t.names = g.made ∙ sym (append-nil c.view.made) ∙
         sym (ap (λ l. c.view.made ++ l) none) ∙ g.named fr in (
           machine_after m thread g.after g.sight,
-          record { heap = g.heap; threads = sym g.threads; input = g.input; ends = g.ends; out = g.out; err = g.err; mid = g.mid },
+          record {
+            heap = g.heap;
+            threads = sym g.threads;
+            input = g.input;
+            ends = g.ends;
+            out = g.out;
+            err = g.err;
+            mid = g.mid;
+          },
           record {
             before = g.before;
             after = g.after;

@@ -1,13 +1,13 @@
 pub mod Sees
 pub mod Slices
-pub mod Wanting
-pub mod Back
-pub mod Flagging
-pub mod Moving
-pub mod Goodness
-pub mod HoldingLemmas
+mod Wanting
+mod Back
+mod Flagging
+mod Moving
+mod Goodness
+mod HoldingLemmas
 pub mod Parts
 pub mod Stores
-pub mod Knowing
-pub mod Placing
+mod Knowing
+mod Placing
 pub mod WordSums
