@@ -9,7 +9,7 @@ mod settle;
 
 use crate::frames::Frames;
 use lock_run::Life;
-use py_base::{NoMemory, skip};
+use py_base::NoMemory;
 use py_data::{Addr, Value, value_or_unset};
 use py_frames::{Dying, Frame};
 use std::alloc::Global;
@@ -193,7 +193,11 @@ impl ThreadState {
         ensures { result.now ≡ operands n (innermost self.now.frames) }
     {
         let stack = self.frames.stack();
-        skip(stack, stack.len().saturating_sub(n))
+        if n < stack.len() {
+            &stack[stack.len() - n..]
+        } else {
+            stack
+        }
     }
 
     /// One of the top `n` values of the innermost frame's stack, the lowest of them at 0; Unset where there is none.

@@ -34,6 +34,15 @@ use py_instrs::{
 use py_states::ThreadState;
 use std::alloc::Global;
 
+/// An operand, from the lowest one on, which is at 0; Unset where there are not so many. Each instruction takes out
+/// those that it wants.
+#[inline(always)]
+fn at(xs: &[Value], i: usize) -> Value
+    ensures { result ≡ value_at xs.now i }
+{
+    value_or_unset(xs, i)
+}
+
 /// These values are pushed, the last on top.
 fn push_all(alloc: Global, xs: &[Value]) -> Result<Next, NoMemory>
     ensures { IfOk result (λ n. n ≡ Goes xs.now) }
@@ -340,60 +349,57 @@ pub fn instr_row<V: View<ThreadState>>(
         (V.sense.heap v.old) }
     ensures { Meets V.sense (steps.instr_row s.now (innermost t.now.frames) xs.now i) v.old v.new result }
 {
-    let x = value_or_unset(xs, 0);
-    let y = value_or_unset(xs, 1);
-    let z = value_or_unset(xs, 2);
     match i {
         Instr::Setup => setup_row(alloc, v, s.program),
         Instr::Const(c) => const_row(v, s.roots, c),
         Instr::Pop => Ok(pass()),
-        Instr::Dup => Ok(push_two(x, x)),
-        Instr::Rot2 => Ok(push_two(y, x)),
-        Instr::Dup2 => Ok(push_all(alloc, &[x, y, x, y])?),
-        Instr::Rot3 => Ok(push_all(alloc, &[z, x, y])?),
+        Instr::Dup => Ok(push_two(at(xs, 0), at(xs, 0))),
+        Instr::Rot2 => Ok(push_two(at(xs, 1), at(xs, 0))),
+        Instr::Dup2 => Ok(push_all(alloc, &[at(xs, 0), at(xs, 1), at(xs, 0), at(xs, 1)])?),
+        Instr::Rot3 => Ok(push_all(alloc, &[at(xs, 2), at(xs, 0), at(xs, 1)])?),
         Instr::LoadLocal(j) => load_local(alloc, v, s, t, j),
-        Instr::StoreLocal(j) => Ok(Next::Stores(j, x)),
+        Instr::StoreLocal(j) => Ok(Next::Stores(j, at(xs, 0))),
         Instr::DelLocal(j) => del_local(alloc, v, s, t, j),
         Instr::LoadGlobal(g) => load_global(alloc, v, s, g),
-        Instr::StoreGlobal(g) => store_global_row(v, s.roots, g, x),
+        Instr::StoreGlobal(g) => store_global_row(v, s.roots, g, at(xs, 0)),
         Instr::DelGlobal(g) => del_global_row(alloc, v, s.roots, g, root_name(s.program, g)),
         Instr::LoadName(n) => load_name(alloc, v, s, t, n),
-        Instr::StoreName(n) => store_name(alloc, v, s, t, n, x),
+        Instr::StoreName(n) => store_name(alloc, v, s, t, n, at(xs, 0)),
         Instr::DelName(n) => del_name(alloc, v, s, t, n),
-        Instr::LoadAttr(n) => load_attr_row(alloc, v, s.roots, n, x),
-        Instr::StoreAttr(n) => store_attr_row(alloc, v, s.roots, n, x, y),
-        Instr::DelAttr(n) => del_attr_instr(alloc, v, s.roots, n, x),
-        Instr::LoadMethod(n) => load_method_row(alloc, v, s.roots, n, x),
-        Instr::LoadItem => load_item_row(alloc, v, s.roots, x, y),
-        Instr::StoreItem => store_item_row(alloc, v, s.roots, x, y, z),
-        Instr::DelItem => del_item_instr(alloc, v, s.roots, x, y),
-        Instr::Slice => slice_instr(alloc, v, s.roots, x, y, z),
-        Instr::Unary(o) => unary_instr(alloc, v, s.roots, o, x),
-        Instr::Not => not_row(v, x),
-        Instr::Binary(o) => binary_instr(alloc, v, s.roots, o, x, y),
-        Instr::InPlace(o) => in_place_instr(alloc, v, s.roots, o, x, y),
-        Instr::Compare(o) => compare_instr(alloc, v, s.roots, o, x, y),
+        Instr::LoadAttr(n) => load_attr_row(alloc, v, s.roots, n, at(xs, 0)),
+        Instr::StoreAttr(n) => store_attr_row(alloc, v, s.roots, n, at(xs, 0), at(xs, 1)),
+        Instr::DelAttr(n) => del_attr_instr(alloc, v, s.roots, n, at(xs, 0)),
+        Instr::LoadMethod(n) => load_method_row(alloc, v, s.roots, n, at(xs, 0)),
+        Instr::LoadItem => load_item_row(alloc, v, s.roots, at(xs, 0), at(xs, 1)),
+        Instr::StoreItem => store_item_row(alloc, v, s.roots, at(xs, 0), at(xs, 1), at(xs, 2)),
+        Instr::DelItem => del_item_instr(alloc, v, s.roots, at(xs, 0), at(xs, 1)),
+        Instr::Slice => slice_instr(alloc, v, s.roots, at(xs, 0), at(xs, 1), at(xs, 2)),
+        Instr::Unary(o) => unary_instr(alloc, v, s.roots, o, at(xs, 0)),
+        Instr::Not => not_row(v, at(xs, 0)),
+        Instr::Binary(o) => binary_instr(alloc, v, s.roots, o, at(xs, 0), at(xs, 1)),
+        Instr::InPlace(o) => in_place_instr(alloc, v, s.roots, o, at(xs, 0), at(xs, 1)),
+        Instr::Compare(o) => compare_instr(alloc, v, s.roots, o, at(xs, 0), at(xs, 1)),
         Instr::Jump(place) => Ok(Next::Jumps(place, Pushed::none())),
-        Instr::JumpFalse(place) => jump_false_row(v, place, x),
-        Instr::KeepFalse(place) => keep_false_row(v, place, x),
-        Instr::KeepTrue(place) => keep_true_row(v, place, x),
+        Instr::JumpFalse(place) => jump_false_row(v, place, at(xs, 0)),
+        Instr::KeepFalse(place) => keep_false_row(v, place, at(xs, 0)),
+        Instr::KeepTrue(place) => keep_true_row(v, place, at(xs, 0)),
         Instr::BuildTuple(_) => build(alloc, v, s, Kind::Tuple, xs),
         Instr::BuildList(_) => build(alloc, v, s, Kind::List, xs),
         Instr::BuildDict(_) => build_dict_row(alloc, v, s.roots, xs),
-        Instr::Unpack(n) => unpack_row(alloc, v, s.roots, n, x),
-        Instr::Iter => iter_instr(alloc, v, s.roots, x),
-        Instr::Next(place) => next_instr(alloc, v, s.roots, place, x),
+        Instr::Unpack(n) => unpack_row(alloc, v, s.roots, n, at(xs, 0)),
+        Instr::Iter => iter_instr(alloc, v, s.roots, at(xs, 0)),
+        Instr::Next(place) => next_instr(alloc, v, s.roots, place, at(xs, 0)),
         Instr::Call(m, l) => call(alloc, v, s, t, m, l, xs),
         Instr::CallMethod(m, l) => call_method(alloc, v, s, t, m, l, xs),
-        Instr::Return => leave(alloc, v, s, t, x),
+        Instr::Return => leave(alloc, v, s, t, at(xs, 0)),
         Instr::MakeFunction(n, _) => make_function(alloc, v, s, n, xs),
-        Instr::ClassBody(n) => class_body_row(alloc, v, s, n, x),
+        Instr::ClassBody(n) => class_body_row(alloc, v, s, n, at(xs, 0)),
         Instr::Try(place) => Ok(Next::Opens(place)),
         Instr::PopTry => Ok(Next::Closes),
-        Instr::ExcMatch => exc_match_row(alloc, v, s.roots, x, y),
+        Instr::ExcMatch => exc_match_row(alloc, v, s.roots, at(xs, 0), at(xs, 1)),
         Instr::MakeRaised(n) => made_raised(alloc, v, s, xs, n),
-        Instr::Raise => raise_value(alloc, v, s.roots, x),
-        Instr::PrintItem => print_item_row(alloc, v, s.roots, x),
+        Instr::Raise => raise_value(alloc, v, s.roots, at(xs, 0)),
+        Instr::PrintItem => print_item_row(alloc, v, s.roots, at(xs, 0)),
         Instr::PrintNewline => print_newline_row(v),
     }
 }

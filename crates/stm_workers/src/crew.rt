@@ -10,6 +10,9 @@ use std::thread::{Threads, join, yield_now};
 /// The longest pause of a worker that finds nothing to do, in times that it lets others run.
 const LONGEST_PAUSE: u32 = 64;
 
+/// The most visits in a row that ask for no errand.
+const LONGEST_SPELL: u32 = 31;
+
 /// What the workers of a crew do with a value of a job, and between their visits to it. A visit may leave an errand
 /// `L` to its worker, to be run before the next one; what comes of it, `P`, the worker brings to its next visit.
 pub(crate) trait Crew<T: Job, L, P> {
@@ -25,8 +28,9 @@ pub(crate) trait Crew<T: Job, L, P> {
     /// What came of an errand came of one of this job.
     ghost done_of: { T.Description → P → Type 0 };
 
-    /// One visit of the worker `k` to the value, with what came of the errand of its last one, and what it found.
-    fn visit(&self, value: &mut T, k: u8, done: Option<P>) -> Visit<L>
+    /// One visit of the worker `k` to the value, with what came of the errand of its last one, and what it found. It
+    /// leaves an errand only where it is asked for one.
+    fn visit(&self, value: &mut T, k: u8, done: Option<P>, asks: bool) -> Visit<L>
         requires good { T.good value.old }
         requires serves { serves self.now (T.job value.old) }
         requires worker { k < workers self.now }
@@ -46,7 +50,50 @@ pub(crate) trait Crew<T: Job, L, P> {
 #[derive(Drop)]
 pub(crate) struct Visit<E> {
     pub found: Finding,
+    /// Whether the errand that was brought was worth its while; None where none was brought.
+    pub worth: Option<bool>,
     pub errand: Option<E>,
+}
+
+/// When a worker asks for errands: after one that wasn't worth its while it makes a spell of visits without, longer
+/// each time, and after one that was it asks at each visit again.
+#[derive(Clone, Copy, Debug)]
+struct Asking {
+    /// How many visits of the spell are left.
+    left: u32,
+    /// How many the last spell had.
+    spell: u32,
+}
+
+impl Asking {
+    /// It asks at the first visit.
+    fn new() -> Asking {
+        Asking { left: 0, spell: 0 }
+    }
+
+    /// Whether the next visit asks.
+    fn is_due(self) -> bool {
+        self.left == 0
+    }
+
+    /// After a visit to which an errand was brought that was worth so much, or none.
+    fn after(self, worth: Option<bool>) -> Asking {
+        match worth {
+            Some(true) => Asking::new(),
+            Some(false) => {
+                let spell = self
+                    .spell
+                    .saturating_mul(2)
+                    .saturating_add(1)
+                    .min(LONGEST_SPELL);
+                Asking { left: spell, spell }
+            }
+            None => Asking {
+                left: self.left.saturating_sub(1),
+                spell: self.spell,
+            },
+        }
+    }
 }
 
 /// The pause after a visit that found this, where the pause before it was so long: it doubles while there is nothing
@@ -106,15 +153,17 @@ fn make_visits<T: Job, L: Drop, P: Drop, W: Crew<T, L, P>, Rt: Wait>(
     ensures seen { (x : T) → All (λ y. T.grows y x) result.seen → All (λ y. T.grows y x) seat.seen }
 {
     let mut pause = 1;
+    let mut asking = Asking::new();
     let mut done: Option<P> = None;
     for _ in rt.forever() {
         let mut value = lock.take(rt, &mut seat);
-        let visit = crew.visit(&mut value, k, done);
+        let visit = crew.visit(&mut value, k, done, asking.is_due());
         lock.give(&mut seat, value);
         if visit.found.is_last() {
             return seat;
         }
         pause = pause_after(visit.found, pause, alone);
+        asking = asking.after(visit.worth);
         done = run_between(crew, k, visit.errand, pause);
     }
     unreachable!()

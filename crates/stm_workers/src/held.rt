@@ -97,6 +97,7 @@ impl<'p, 'g, C: Client, S: SegStore, I: Source, O: Sink, E: Sink, G: Gate> Crew<
         value: &mut Held<'p, C, S, I, O, E>,
         k: u8,
         done: Option<Piece<C::State>>,
+        asks: bool,
     ) -> Visit<Errand<'p, C>>
         requires good { IsGoodCore I.state O.state E.state C.prog C.sound S.reserved S.meaning value.old.core }
         requires serves { (core_job S.meaning value.old.core).segments ≡ self.now.workers }
@@ -109,9 +110,10 @@ impl<'p, 'g, C: Client, S: SegStore, I: Source, O: Sink, E: Sink, G: Gate> Crew<
     {
         let core = &mut value.core;
         let client = core.client();
-        let (found, loan) = visit_with(core, k, done);
+        let (found, worth, loan) = visit_with(core, k, done, asks);
         Visit {
             found,
+            worth,
             errand: with_client(client, loan),
         }
     }

@@ -388,26 +388,27 @@ fn lend<C: Client, S: SegStore, I: Source, O: Sink, E: Sink>(
     }
 }
 
-/// A visit that brings a piece, if there is one, and what it found. It asks for no loan.
+/// A visit that brings a piece, if there is one: what it found, and how many steps the piece added. It asks for no
+/// loan.
 fn go_round<C: Client, S: SegStore, I: Source, O: Sink, E: Sink>(
     core: &mut Core<'_, C, S, I, O, E>,
     k: u8,
     piece: Option<Piece<C::State>>,
-) -> Finding
+) -> (Finding, u64)
     requires good { IsGoodCore I.state O.state E.state C.prog C.sound S.reserved S.meaning core.old }
     requires segment { k < (core_limits S.meaning core.old).segments }
     requires by { IfSome piece (IsPieceBy (C.prog (core_client core.old))) }
     ensures good { IsGoodCore I.state O.state E.state C.prog C.sound S.reserved S.meaning core.new }
     ensures job { SameJob S.meaning core.old core.new }
     ensures grows { Grows I.state O.state E.state C.prog S.meaning S.peaks core.old core.new }
-    ensures over { result ≡ Finding.Ended → HasEnded I.state O.state E.state C.prog S.meaning core.new }
+    ensures over { result.0 ≡ Finding.Ended → HasEnded I.state O.state E.state C.prog S.meaning core.new }
 {
     if has_ended(core) {
-        return Finding::Ended;
+        return (Finding::Ended, 0);
     }
     let alone = core.store().segments() == 1;
     let steps = take_in(core, k, piece);
-    found(work(core, k, steps_after(alone, steps)))
+    (found(work(core, k, steps_after(alone, steps))), steps)
 }
 
 /// One visit of the worker of segment `k` without pieces, and what it found.
@@ -426,20 +427,31 @@ pub fn visit<C: Client, S: SegStore, I: Source, O: Sink, E: Sink>(
     ensures grows { Grows I.state O.state E.state C.prog S.meaning S.peaks core.old core.new }
     ensures over { result ≡ Finding.Ended → HasEnded I.state O.state E.state C.prog S.meaning core.new }
 {
-    go_round(core, k, None)
+    go_round(core, k, None).0
+}
+
+/// Whether a piece that was brought and added so many steps was worth its copies; None where none was brought.
+fn worth_of(brought: bool, steps: u64) -> Option<bool> {
+    if brought {
+        Some(WORTHY_STEPS <= steps)
+    } else {
+        None
+    }
 }
 
 /// One visit of the worker of segment `k`, which brings the piece that it has run since the last one, if it has: what
-/// it found, and a loan for the next piece.
+/// it found, whether the piece was worth its copies, and a loan for the next piece.
 ///
 /// A piece that fits is installed, and what has as many steps as the length then is committed. The visit goes on as
-/// one without pieces does, but by one step where the piece went far. Then, where a transaction that may go on is in
-/// hand, its thread's state and records that its steps have looked at are loaned.
+/// one without pieces does, but by one step where the piece went far. Then, where the worker asks for a loan, brought no
+/// piece that wasn't worth it, and has a transaction in hand that may go on, its thread's state and records that its
+/// steps have looked at are loaned.
 pub fn visit_with<C: Client, S: SegStore, I: Source, O: Sink, E: Sink>(
     core: &mut Core<'_, C, S, I, O, E>,
     k: u8,
     piece: Option<Piece<C::State>>,
-) -> (Finding, Option<Loan<C::State>>)
+    asks: bool,
+) -> (Finding, Option<bool>, Option<Loan<C::State>>)
     requires good { IsGoodCore I.state O.state E.state C.prog C.sound S.reserved S.meaning core.old }
     requires segment { k < (core_limits S.meaning core.old).segments }
     requires by { IfSome piece (IsPieceBy (C.prog (core_client core.old))) }
@@ -447,11 +459,13 @@ pub fn visit_with<C: Client, S: SegStore, I: Source, O: Sink, E: Sink>(
     ensures job { core_job S.meaning core.new ≡ core_job S.meaning core.old }
     ensures grows { Grows I.state O.state E.state C.prog S.meaning S.peaks core.old core.new }
     ensures over { result.0 ≡ Finding.Ended → HasEnded I.state O.state E.state C.prog S.meaning core.new }
-    ensures loan { IfSome result.1 (IsRunnable C.prog C.sound (core_client core.old)) }
+    ensures loan { IfSome result.2 (IsRunnable C.prog C.sound (core_client core.old)) }
 {
-    let found = go_round(core, k, piece);
-    if found.is_last() {
-        return (found, None);
+    let brought = piece.is_some();
+    let (found, steps) = go_round(core, k, piece);
+    let worth = worth_of(brought, steps);
+    if found.is_last() || !asks || worth == Some(false) {
+        return (found, worth, None);
     }
-    (found, lend(core, k))
+    (found, worth, lend(core, k))
 }
