@@ -15,8 +15,8 @@ returns-then-not-wins-clause-held g c = (
       (meets_lock (g.S.SegStore.reserved c.args.self.now.store.now) (g.S.SegStore.meaning c.args.self.now.store.now)
       c.args.j c.args.self.now.segment c.args.a.0 c.known.ensures.store c.requires.other c.requires.there
       c.requires.held)
-      (ap g.S.SegStore.meaning c.fail.ensures.store) (ap g.S.SegStore.reserved c.fail.ensures.store) c.fail.ensures.books
-      c.fail.ensures.progress c.fail.ensures.last,
+      (ap g.S.SegStore.meaning c.fail.ensures.store) (ap g.S.SegStore.reserved c.fail.ensures.store)
+      c.fail.ensures.books c.fail.ensures.progress c.fail.ensures.last,
 )
 
 pub returns-clause-held : goal.returns-clause-held
