@@ -276,7 +276,7 @@ module _ {S : Type 0} (m : Meaning) (b b1 : Books S) (r : Rooms b b1) where
   roomy_hands : b1.hands.items ≡ b.hands.items
   roomy_hands = ap (λ (z : Books S). z.hands.items) r.rest
 
-  pub roomy_whole : Whole m b → Whole m b1
+  roomy_whole : Whole m b → Whole m b1
   roomy_whole h =
       let hs = roomy_hands in
       let th : b1.threads.room ≡ b.threads.room = ap (λ (z : Books S). z.threads.room) r.rest in
@@ -296,7 +296,7 @@ module _ {S : Type 0} (m : Meaning) (b b1 : Books S) (r : Rooms b b1) where
         threads = omega (arith, th, pe, q);
       }
 
-  pub core_roomy : (w : Worlds) → core_of w m b1 ≡ core_of w m b
+  core_roomy : (w : Worlds) → core_of w m b1 ≡ core_of w m b
   core_roomy w i = record {
     image = m.image;
     threads = ap (λ (z : Books S). z.threads.entries) r.rest i;
@@ -308,6 +308,20 @@ module _ {S : Type 0} (m : Meaning) (b b1 : Books S) (r : Rooms b b1) where
     cause = ap (λ (z : Books S). z.cause) r.rest i;
     segments = λ j. segment_of w.own (m.part j) (slice_get (ap (λ (z : Books S). z.hands.items) r.rest i) j);
   }
+
+pub rooms_made : {S : Type 0} (b b1 : Books S) → b1 ≡ record b { history = b1.history; conflicts = b1.conflicts } →
+    b1.history.entries ≡ b.history.entries → b.history.room ≤ b1.history.room →
+    b1.conflicts.entries ≡ b.conflicts.entries → b.conflicts.room ≤ b1.conflicts.room → Rooms b b1
+rooms_made b b1 rest turns turns_kept losses losses_kept =
+    record { rest = rest; turns = turns; turns_kept = turns_kept; losses = losses; losses_kept = losses_kept }
+
+-- the same with a store, which stays
+module _ {S St : Type 0} (meaning : St → Meaning) (s s1 : St) (b b1 : Books S) (same : s1 ≡ s) (r : Rooms b b1) where
+  pub whole_roomy : Whole (meaning s) b → Whole (meaning s1) b1
+  whole_roomy h = subst (λ z. Whole (meaning z) b1) (sym same) (roomy_whole (meaning s) b b1 r h)
+
+  pub core_roomy_in : (w : Worlds) → core_of w (meaning s1) b1 ≡ core_of w (meaning s) b
+  core_roomy_in w = ap (λ z. core_of w (meaning z) b1) same ∙ core_roomy (meaning s) b b1 r w
 
 -- a cause is kept
 pub caused_whole : {S : Type 0} (m : Meaning) (b : Books S) (e : Option Cause) → Whole m b →

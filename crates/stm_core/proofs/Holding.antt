@@ -1,9 +1,10 @@
 -- How a segment's view comes to hold a record, and what that leaves beside its own sight.
-use Rattle.std.proofs.Common.{◌≡◌, ◌≢◌, ◌⊎◌, ◌<◌, ◌≤◌, ℕ, Bool, true, false, cond, ◌||◌, eqb, List, [], ◌∷◌, ◌++◌, length, slice_get, slice_set, Option, Some, None, refl, sym, ◌∙◌, ap, subst, inl, inr, arith, IsSome, is_some, Result, Ok, Err, OnOk}
+use Rattle.std.proofs.Common.{◌≡◌, ◌≢◌, ◌⊎◌, ◌<◌, ◌≤◌, ℕ, Bool, true, false, cond, ◌||◌, eqb, List, [], ◌∷◌, ◌++◌, length, slice_get, slice_set, Option, Some, None, refl, sym, ◌∙◌, ap, subst, inl, inr, arith, IsSome, is_some, Result, Ok, Err, OnOk, OnErr, IfErr}
 use Rattle.std.proofs.lemmas.List.Elements.{All-append, All-cons, All-nil, All-weaker}
 use Rattle.std.proofs.lemmas.Bool.{cases_Bool, both_ways, or_cases, or_left, or_right, eqb-true, eqb-false, cond-true, cond-false}
 use Rattle.py_data.specs.declared.stop.Side.{Side}
 use Rattle.py_data.specs.declared.stop.Conflict.{Conflict}
+use Rattle.py_data.specs.declared.stop.Stop.{Stop}
 use Rattle.stm_core.specs.declared.halt.Halt.{Halt}
 use Rattle.stm_core.specs.declared.halt.LastStop.{LastStop}
 use Rattle.stm_core.specs.declared.halt.Halt.TheVariants.{Lost, OutOfMemory}
@@ -23,8 +24,8 @@ use Rattle.stm_core.specs.CoreState.{Transaction, Segment, Running, CoreState, w
 use Rattle.stm_core.specs.Conflict.{side, wins}
 use Rattle.stm_core.specs.CoreState as model
 use Rattle.stm_core.specs.Books.{is_running, runs_at, side_of, Worlds, transaction, segment_of, core_of}
-use Rattle.stm_core.specs.inner.Halts.{gave}
-use Rattle.stm_core.specs.inner.Hold.{Hold, Dooms, Beside, LosesTo, Holds, Fails, FailWhy, is_noted, Looks, holding}
+use Rattle.stm_core.specs.inner.Halts.{stop_of, gave}
+use Rattle.stm_core.specs.inner.Hold.{Hold, Dooms, Beside, LosesTo, Holds, Fails, FailWhy, HoldsOrFails, is_noted, Looks, holding}
 use Rattle.stm_core.proofs.Publish.{get_set_other}
 use Rattle.stm_core.proofs.Looking.{noted_tracked}
 use Rattle.stm_core.proofs.Fits.{get_set_same, work_at, runs_within, seen_image}
@@ -36,13 +37,15 @@ dooms_then : {S : Type 0} (k : ℕ) (me : Side) (fs gs : List Conflict) (a b c :
 dooms_then k me [] gs a b c f g = subst (λ z. Dooms k me gs z c) f g
 dooms_then k me (f ∷ fs) gs a b c h g = (h.0, h.1, dooms_then k me fs gs h.0 b c h.2 g)
 
-pub beside_refl : {S : Type 0} {asks : ℕ → Type 0} (k : ℕ) (me : Side) (d : Hold S) → Beside k me asks d d
-beside_refl {asks = asks} k me d = record {
+-- nothing but the Stop changed, and what is reserved may have grown
+pub beside_stop : {S : Type 0} {asks : ℕ → Type 0} (k : ℕ) (me : Side) (m : Meaning) (r r1 : ℕ) (b : Books S)
+    (p : Progress S) (o o1 : LastStop) → r ≤ r1 → Beside k me asks (holding m r b p o) (holding m r1 b p o1)
+beside_stop {asks = asks} k me m r r1 b p o o1 le = record {
   saw = refl;
   image = refl;
   segments = refl;
   limit = refl;
-  reserved = omega arith;
+  reserved = le;
   hand = refl;
   broken = refl;
   dooms = [];
@@ -56,6 +59,10 @@ beside_refl {asks = asks} k me d = record {
   looked = λ a h. h;
   locks = λ a h. h;
 }
+
+-- nothing changed
+pub beside_refl : {S : Type 0} {asks : ℕ → Type 0} (k : ℕ) (me : Side) (d : Hold S) → Beside k me asks d d
+beside_refl k me d = beside_stop k me d.meaning d.reserved d.reserved d.books d.progress d.last d.last (omega arith)
 
 -- it asks for more records
 pub beside_weaker : {S : Type 0} (P Q : ℕ → Type 0) (k : ℕ) (me : Side) (d e : Hold S) → ((a : ℕ) → P a → Q a) →
@@ -477,29 +484,6 @@ holds_after k me a j f m r b b1 p o e ds at h =
 
 -- ---- a call that failed
 
--- nothing but the Stop changed
-pub beside_stop : {S : Type 0} {asks : ℕ → Type 0} (k : ℕ) (me : Side) (m : Meaning) (r r1 : ℕ) (b : Books S)
-    (p : Progress S) (o o1 : LastStop) → r ≤ r1 → Beside k me asks (holding m r b p o) (holding m r1 b p o1)
-beside_stop {asks = asks} k me m r r1 b p o o1 le = record {
-  saw = refl;
-  image = refl;
-  segments = refl;
-  limit = refl;
-  reserved = le;
-  hand = refl;
-  broken = refl;
-  dooms = [];
-  others = λ w. refl;
-  asked = All-nil (λ (f : Conflict). asks f.at.0);
-  kept_names = refl;
-  kept_started = refl;
-  names = λ h. (h, refl);
-  started = λ h. (h, refl);
-  made = refl;
-  looked = λ a h. h;
-  locks = λ a h. h;
-}
-
 -- the call was refused and the store, the books and the progress are as before
 pub fails_alone : {S : Type 0} (k : ℕ) (me : Side) (a : ℕ) (m m1 : Meaning) (r r1 : ℕ) (b b1 : Books S)
     (p p1 : Progress S) (o o1 : LastStop) (s : Halt) → m1 ≡ m → r ≤ r1 → b1 ≡ b → p1 ≡ p → o1 ≡ gave s
@@ -577,6 +561,13 @@ pub on_ok_two : {T E P Q R : Type 0} (r : Result T E) → (P → Q → R) → On
 on_ok_two (Ok x) f p q = f p q
 on_ok_two (Err x) f p q = tt
 
+-- by cases of what a call answered that was to hold the record
+pub held_by_cases : {S A : Type 0} (k : ℕ) (me : Side) (a : ℕ) (d : Hold S) (x : Result A Stop) (e : Hold S) →
+    OnOk x (Holds k me a d e) → IfErr x (λ s. s ≡ stop_of e.last.halt) → OnErr x (Fails k me a d e.last.halt e)
+    → HoldsOrFails k me a d x e
+held_by_cases k me a d (Ok u) e ok word err = ok
+held_by_cases k me a d (Err s) e ok word err = (word, err)
+
 -- the view once another segment was doomed
 pub record AfterDoom {S : Type 0} (k : ℕ) (me : Side) (j : ℕ) (f : Conflict) (m : Meaning) (r : ℕ) (b : Books S)
     (p : Progress S) (o : LastStop) (k1 : ℕ) (me1 : Side) (m1 : Meaning) (r1 : ℕ) (b1 : Books S) (p1 : Progress S)
@@ -601,8 +592,13 @@ module _ {S : Type 0} (k : ℕ) (me : Side) (j : ℕ) (f : Conflict) (m : Meanin
       (subst (λ z. P k z (holding m1 r1 b1 p1 o1)) d.me_is
       (subst (λ z. P z me1 (holding m1 r1 b1 p1 o1)) d.segment h)))))
 
-  pub holds_then : Holds k1 me1 a (holding m1 r1 b1 p1 o1) e → Holds k me a (holding m r b p o) e
+  holds_then : Holds k1 me1 a (holding m1 r1 b1 p1 o1) e → Holds k me a (holding m r b p o) e
   holds_then h = holds_after k me a j f m r b b1 p o e d.dooms at (moved (λ i s z. Holds i s a z e) h)
 
-  pub fails_then : (s : Halt) → Fails k1 me1 a (holding m1 r1 b1 p1 o1) s e → Fails k me a (holding m r b p o) s e
+  fails_then : (s : Halt) → Fails k1 me1 a (holding m1 r1 b1 p1 o1) s e → Fails k me a (holding m r b p o) s e
   fails_then s h = fails_after k me a j f m r b b1 p o s e d.dooms at (moved (λ i z x. Fails i z a x s e) h)
+
+  pub held_then : {A : Type 0} (x : Result A Stop) → HoldsOrFails k1 me1 a (holding m1 r1 b1 p1 o1) x e →
+      HoldsOrFails k me a (holding m r b p o) x e
+  held_then (Ok u) h = holds_then h
+  held_then (Err s) h = (h.0, fails_then e.last.halt h.1)

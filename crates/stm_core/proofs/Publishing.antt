@@ -188,6 +188,21 @@ count_more spent ts t e =
     let s = sum_by-append (λ (u : Turn). u.steps) ts (t ∷ []) in
     grind (arith, e, s)
 
+-- what publishing asks for holds again after the second pass
+module _ {S : Type 0} (w : Worlds) (k : ℕ) (m m1 : Meaning) (b b1 : Books S) (x : Work S)
+    (core : core_with w k m1 b1 x ≡ doom_readers k (transaction w.own (m.part k) x) (range_with_len 0 m.segments)
+    (core_with w k m b x)) where
+  still : (b1.threads.entries ≡ b.threads.entries) × (b1.history.entries ≡ b.history.entries)
+  still = let q = dooms_keep k (transaction w.own (m.part k) x) (range_with_len 0 m.segments) (core_with w k m b x) in
+      (ap (λ (z : CoreState S). z.threads) core ∙ q.0, ap (λ (z : CoreState S). z.history) core ∙ q.1)
+
+  pub thread_still : x.thread < length b.threads.entries → x.thread < length b1.threads.entries
+  thread_still lt = subst (λ l. x.thread < length l) (sym still.0) lt
+
+  pub count_still : (spent spent1 : ℕ) → spent1 ≡ spent → CountsSteps spent b.history.entries →
+      CountsSteps spent1 b1.history.entries
+  count_still spent spent1 same h = same ∙ subst (λ l. CountsSteps spent l) (sym still.1) h
+
 -- ---- a transaction taken out of its hand
 
 module _ {S : Type 0} (k : ℕ) (m : Meaning) (b b1 : Books S) where

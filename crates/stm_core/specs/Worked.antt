@@ -1,5 +1,5 @@
 -- Conflicts worked by hand: who wins, when one stands, and that one stood. States `docs/HEAP.md`, "Conflicts".
-use Rattle.std.specs.Prelude.{◌≡◌, ℕ, Bool, true, false, cond, eqb, ◌||◌, List, [], ◌∷◌, Some, None, refl}
+use Rattle.std.specs.Prelude.{◌≡◌, ℕ, Bool, true, false, cond, eqb, ◌||◌, List, [], ◌∷◌, Some, None, slice_get, refl}
 use Rattle.std.proofs.Common.{arith, ap, sym, ◌∙◌}
 use Rattle.py_data.specs.declared.value.Value.TheVariants.{None as NoneValue}
 use Rattle.py_data.specs.declared.change.Change.TheVariants.{Push}
@@ -113,11 +113,15 @@ module _ {S : Type 0} (p : Prog S) where
     locked_three : (a : ℕ) → eqb a 3 ≡ true → IsLocked heap (λ b. eqb b 3) a
     locked_three a e = record { entry = r; is = rw e refl; tracked = tracked; marked = e }
 
-    writer_stands : Stands p heap machine.threads no_world writer
-    writer_stands = record {
+    -- a transaction stands that did no step yet, has looked at the record 3, and has locked these
+    begun_stands : (i n : ℕ) (locks : List ℕ) → slice_get machine.threads i ≡ Some p.first →
+        ((a : ℕ) → mem a locks ≡ true → IsLocked heap (λ b. eqb b 3) a)
+        → Stands p heap machine.threads no_world
+        (record (fresh start i p.first) { looked = λ a. eqb a 3; changed = locks; begun = n })
+    begun_stands i n locks is locked = record {
       before = p.first;
       sight = opened S heap no_world;
-      is = refl;
+      is = is;
       lives = lives;
       steps = (refl, refl);
       shows = record {
@@ -127,33 +131,18 @@ module _ {S : Type 0} (p : Prog S) where
         looked = λ a h. absurd (let q : false ≡ true = h in cc);
         touched = λ a h. absurd (let q : false ≡ true = h in cc);
         within = λ a h. refl;
-        locked = λ a h. locked_three a (is_three (eqb a 3) h);
+        locked = locked;
         unused = λ a h. absurd (let q : false ≡ true = h in cc);
         world_is = λ h. absurd (let q : false ≡ true = h in cc);
         quiet = λ h. refl;
       };
     }
 
+    writer_stands : Stands p heap machine.threads no_world writer
+    writer_stands = begun_stands 0 0 (3 ∷ []) refl (λ a h. locked_three a (is_three (eqb a 3) h))
+
     looker_stands : Stands p heap machine.threads no_world looker
-    looker_stands = record {
-      before = p.first;
-      sight = opened S heap no_world;
-      is = refl;
-      lives = lives;
-      steps = (refl, refl);
-      shows = record {
-        view = λ a. refl;
-        made = refl;
-        started = refl;
-        looked = λ a h. absurd (let q : false ≡ true = h in cc);
-        touched = λ a h. absurd (let q : false ≡ true = h in cc);
-        within = λ a h. refl;
-        locked = λ a h. absurd (let q : false ≡ true = h in cc);
-        unused = λ a h. absurd (let q : false ≡ true = h in cc);
-        world_is = λ h. absurd (let q : false ≡ true = h in cc);
-        quiet = λ h. refl;
-      };
-    }
+    looker_stands = begun_stands 1 1 [] refl (λ a h. absurd (let q : false ≡ true = h in cc))
 
     -- before any turn
     look_stood : Stood p machine [] by_look

@@ -240,7 +240,8 @@ impl<'p, C: Client, S: SegStore, I: Source, O: Sink, E: Sink> Core<'p, C, S, I, 
             (first_devices I.state O.state E.state self.entry)
             (device_state I.state O.state E.state
             (record { input = result.input; out = result.out; err = result.err; mid = false; was_mid = false }))
-            result.state result.failed result.history.entries result.conflicts.entries (S.meaning result.store).image o o1
+            result.state result.failed result.history.entries result.conflicts.entries (S.meaning result.store).image o
+            o1
             × IsFullKept (S.reserved result.store) (S.meaning result.store).limit o1.core.cause }
         ensures over { (o : Outer C.State) (s : RunState) →
             CoreStands I.state O.state E.state C.prog S.meaning self.entry o

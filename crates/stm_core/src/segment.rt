@@ -21,7 +21,7 @@ ghost use Rattle.stm_core.specs.InUse.{wants_more, RisesUpTo, IfTold};
 ghost use Rattle.stm_core.specs.inner.SegSense.{Seen, RisesThere};
 ghost use Rattle.stm_core.specs.declared.halt.Halt.TheVariants.{OutOfMemory};
 ghost use Rattle.stm_core.specs.inner.Halts.{stop_of, gave, gave_none};
-ghost use Rattle.stm_core.specs.inner.Hold.{holding, halt_of, SegDoes, SegWhy, SegRefuses, FaultWhy, Holds, Fails, is_noted, Looks};
+ghost use Rattle.stm_core.specs.inner.Hold.{holding, halt_of, SegDoes, SegWhy, SegRefuses, FaultWhy, HoldsOrFails, is_noted, Looks};
 
 use crate::books::{Books, Hand, Progress};
 use crate::devices::Devices;
@@ -246,17 +246,11 @@ impl<'a, T: Drop, S: SegStore, I, O, E> SegView<'a, T, S, I, O, E> {
         requires there { Has (sees (S.meaning self.old.store.now) self.old.segment) a.0 }
         requires tracked { is_tracked (at (sees (S.meaning self.old.store.now) self.old.segment) a.0).kind ≡ true }
         requires held { holds ((S.meaning self.old.store.now).part self.old.segment) a.0 ≡ true }
-        ensures ok { OnOk result (Holds self.old.segment self.old.side a.0
+        ensures held { HoldsOrFails self.old.segment self.old.side a.0
             (holding (S.meaning self.old.store.now) (S.reserved self.old.store.now) self.old.books.now
-            self.old.progress.now self.old.last)
+            self.old.progress.now self.old.last) result
             (holding (S.meaning self.new.store.now) (S.reserved self.new.store.now) self.new.books.now
-            self.new.progress.now self.new.last)) }
-        ensures word { IfErr result (λ e. e ≡ stop_of self.new.last.halt) }
-        ensures err { OnErr result (Fails self.old.segment self.old.side a.0
-            (holding (S.meaning self.old.store.now) (S.reserved self.old.store.now) self.old.books.now
-            self.old.progress.now self.old.last) self.new.last.halt
-            (holding (S.meaning self.new.store.now) (S.reserved self.new.store.now) self.new.books.now
-            self.new.progress.now self.new.last)) }
+            self.new.progress.now self.new.last) }
         ensures stays { (self.new.segment ≡ self.old.segment) × (self.new.side ≡ self.old.side)
             × (self.new.devices ≡ self.old.devices) }
         ensures refs { (self.new.store.ghost_name ≡ self.old.store.ghost_name)
@@ -273,17 +267,11 @@ impl<'a, T: Drop, S: SegStore, I, O, E> SegView<'a, T, S, I, O, E> {
         requires there { Has (sees (S.meaning self.old.store.now) self.old.segment) a.0 }
         requires tracked { is_tracked (at (sees (S.meaning self.old.store.now) self.old.segment) a.0).kind ≡ true }
         requires free { NoOther (S.meaning self.old.store.now) self.old.segment a.0 }
-        ensures ok { OnOk result (Holds self.old.segment self.old.side a.0
+        ensures held { HoldsOrFails self.old.segment self.old.side a.0
             (holding (S.meaning self.old.store.now) (S.reserved self.old.store.now) self.old.books.now
-            self.old.progress.now self.old.last)
+            self.old.progress.now self.old.last) result
             (holding (S.meaning self.new.store.now) (S.reserved self.new.store.now) self.new.books.now
-            self.new.progress.now self.new.last)) }
-        ensures word { IfErr result (λ e. e ≡ stop_of self.new.last.halt) }
-        ensures err { OnErr result (Fails self.old.segment self.old.side a.0
-            (holding (S.meaning self.old.store.now) (S.reserved self.old.store.now) self.old.books.now
-            self.old.progress.now self.old.last) self.new.last.halt
-            (holding (S.meaning self.new.store.now) (S.reserved self.new.store.now) self.new.books.now
-            self.new.progress.now self.new.last)) }
+            self.new.progress.now self.new.last) }
         ensures stays { (self.new.segment ≡ self.old.segment) × (self.new.side ≡ self.old.side)
             × (self.new.devices ≡ self.old.devices) }
         ensures refs { (self.new.store.ghost_name ≡ self.old.store.ghost_name)
@@ -305,17 +293,11 @@ impl<'a, T: Drop, S: SegStore, I, O, E> SegView<'a, T, S, I, O, E> {
         requires there { Has (sees (S.meaning self.old.store.now) self.old.segment) a.0 }
         requires tracked { is_tracked (at (sees (S.meaning self.old.store.now) self.old.segment) a.0).kind ≡ true }
         requires held { holds ((S.meaning self.old.store.now).part j) a.0 ≡ true }
-        ensures ok { OnOk result (Holds self.old.segment self.old.side a.0
+        ensures held { HoldsOrFails self.old.segment self.old.side a.0
             (holding (S.meaning self.old.store.now) (S.reserved self.old.store.now) self.old.books.now
-            self.old.progress.now self.old.last)
+            self.old.progress.now self.old.last) result
             (holding (S.meaning self.new.store.now) (S.reserved self.new.store.now) self.new.books.now
-            self.new.progress.now self.new.last)) }
-        ensures word { IfErr result (λ e. e ≡ stop_of self.new.last.halt) }
-        ensures err { OnErr result (Fails self.old.segment self.old.side a.0
-            (holding (S.meaning self.old.store.now) (S.reserved self.old.store.now) self.old.books.now
-            self.old.progress.now self.old.last) self.new.last.halt
-            (holding (S.meaning self.new.store.now) (S.reserved self.new.store.now) self.new.books.now
-            self.new.progress.now self.new.last)) }
+            self.new.progress.now self.new.last) }
         ensures stays { (self.new.segment ≡ self.old.segment) × (self.new.side ≡ self.old.side)
             × (self.new.devices ≡ self.old.devices) }
         ensures refs { (self.new.store.ghost_name ≡ self.old.store.ghost_name)
@@ -350,17 +332,11 @@ impl<'a, T: Drop, S: SegStore, I, O, E> SegView<'a, T, S, I, O, E> {
     fn hold(&mut self, a: Addr) -> Result<(), Stop>
         requires there { Has (sees (S.meaning self.old.store.now) self.old.segment) a.0 }
         requires tracked { is_tracked (at (sees (S.meaning self.old.store.now) self.old.segment) a.0).kind ≡ true }
-        ensures ok { OnOk result (Holds self.old.segment self.old.side a.0
+        ensures held { HoldsOrFails self.old.segment self.old.side a.0
             (holding (S.meaning self.old.store.now) (S.reserved self.old.store.now) self.old.books.now
-            self.old.progress.now self.old.last)
+            self.old.progress.now self.old.last) result
             (holding (S.meaning self.new.store.now) (S.reserved self.new.store.now) self.new.books.now
-            self.new.progress.now self.new.last)) }
-        ensures word { IfErr result (λ e. e ≡ stop_of self.new.last.halt) }
-        ensures err { OnErr result (Fails self.old.segment self.old.side a.0
-            (holding (S.meaning self.old.store.now) (S.reserved self.old.store.now) self.old.books.now
-            self.old.progress.now self.old.last) self.new.last.halt
-            (holding (S.meaning self.new.store.now) (S.reserved self.new.store.now) self.new.books.now
-            self.new.progress.now self.new.last)) }
+            self.new.progress.now self.new.last) }
         ensures stays { (self.new.segment ≡ self.old.segment) × (self.new.side ≡ self.old.side)
             × (self.new.devices ≡ self.old.devices) }
         ensures refs { (self.new.store.ghost_name ≡ self.old.store.ghost_name)

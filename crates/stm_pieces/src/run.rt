@@ -1,5 +1,5 @@
 //! Runs a piece: steps of any client over a piece view.
-ghost use Rattle.std.specs.Prelude.{◌≡◌, ◌≤◌, true, false, IfOk, IfErr};
+ghost use Rattle.std.specs.Prelude.{◌≡◌, ◌≤◌, true, false};
 ghost use Rattle.lock_run.specs.declared.client.Life.TheVariants.{Lives};
 ghost use Rattle.lock_run.specs.Client.{StandsIn};
 ghost use Rattle.stm_pieces.specs.Piece.{IsPiece};
@@ -7,7 +7,7 @@ ghost use Rattle.stm_pieces.specs.PieceOf.{piece_state};
 ghost use Rattle.stm_pieces.specs.PieceState.{IsTight, SameTerms, Replayed};
 ghost use Rattle.stm_pieces.specs.Ends.{EndsSo};
 ghost use Rattle.stm_pieces.specs.inner.Ending.{end_for};
-ghost use Rattle.stm_pieces.specs.inner.Stepwise.{OneStep, NoStep};
+ghost use Rattle.stm_pieces.specs.inner.Stepwise.{Turned};
 
 use crate::view::PieceView;
 use lock_run::{Client, Outcome};
@@ -53,10 +53,8 @@ fn step_over<C: Client>(
 ) -> Result<bool, PieceEnd>
     requires lives { (C.prog client.now).life state.old ≡ Lives }
     requires stands { StandsIn (C.sound client.now) true (piece_state view.old).heap state.old }
-    ensures ok { IfOk result (λ on. OneStep (C.prog client.now) (C.sound client.now) state.old
-        (piece_state view.old) on state.new (piece_state view.new)) }
-    ensures err { IfErr result (λ e. NoStep (C.prog client.now) (C.sound client.now) state.old
-        (piece_state view.old) e state.new (piece_state view.new)) }
+    ensures { Turned (C.prog client.now) (C.sound client.now) state.old (piece_state view.old) result state.new
+        (piece_state view.new) }
 {
     match client.step(alloc, state, view) {
         Ok(Outcome::Done) => Ok(true),
@@ -78,10 +76,8 @@ fn step_here<C: Client>(
 ) -> Result<bool, PieceEnd>
     requires lives { (C.prog client.now).life state.old ≡ Lives }
     requires stands { StandsIn (C.sound client.now) true (piece_state view.old).heap state.old }
-    ensures ok { IfOk result (λ on. OneStep (C.prog client.now) (C.sound client.now) state.old
-        (piece_state view.old) on state.new (piece_state view.new)) }
-    ensures err { IfErr result (λ e. NoStep (C.prog client.now) (C.sound client.now) state.old
-        (piece_state view.old) e state.new (piece_state view.new)) }
+    ensures { Turned (C.prog client.now) (C.sound client.now) state.old (piece_state view.old) result state.new
+        (piece_state view.new) }
 {
     if client.step_pure(state) {
         return Ok(true);

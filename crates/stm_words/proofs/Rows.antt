@@ -20,10 +20,11 @@ use Rattle.stm_words.proofs.Meaning.{Doomed, answer, places-append, twice_a_plac
 
 -- ---- the command as it is built
 
-abbrev pub rule_of_setting : Setting → Rule
-rule_of_setting s = record {
-  id = name_of s;
-  long = Some (name_of s);
+-- a rule of one text, given by no option and at no place
+abbrev text_rule : Text → Rule
+text_rule name = record {
+  id = name;
+  long = None;
   aliases = [];
   short = None;
   short_aliases = [];
@@ -41,26 +42,11 @@ rule_of_setting s = record {
   is_free = true;
 }
 
+abbrev pub rule_of_setting : Setting → Rule
+rule_of_setting s = record (text_rule (name_of s)) { long = Some (name_of s) }
+
 abbrev pub file_rule : Rule
-file_rule = record {
-  id = codes "file";
-  long = None;
-  aliases = [];
-  short = None;
-  short_aliases = [];
-  index = Some 1;
-  action = Some Set;
-  range = Some (record { start_inclusive = 1; end_inclusive = 1 });
-  value_names = 0;
-  defaults = [];
-  missing = [];
-  trailing_var_arg = false;
-  parser = Some vp.String;
-  ignore_case = false;
-  required = false;
-  is_simple = true;
-  is_free = true;
-}
+file_rule = record (text_rule (codes "file")) { index = Some 1 }
 
 abbrev pub rules : List Rule
 rules =

@@ -1,9 +1,10 @@
 -- What code and proofs say to each other: nothing public rests on it.
 -- What a segment's view holds, as values, and what each of its calls does. States `docs/HEAP.md`, "The view of a
 -- segment".
-use Rattle.std.specs.Prelude.{◌≡◌, ◌≢◌, ℕ, ◌+◌, ◌<◌, ◌≤◌, ◌⊎◌, Bool, true, false, cond, not, ◌||◌, List, [], ◌∷◌, Option, Some, None, length, take, slice_get, All}
+use Rattle.std.specs.Prelude.{◌≡◌, ◌≢◌, ℕ, ◌+◌, ◌<◌, ◌≤◌, ◌⊎◌, Bool, true, false, cond, not, ◌||◌, List, [], ◌∷◌, Option, Some, None, Result, Ok, Err, length, take, slice_get, All}
 use Rattle.py_data.specs.declared.stop.Side.{Side}
 use Rattle.py_data.specs.declared.stop.Conflict.{Conflict}
+use Rattle.py_data.specs.declared.stop.Stop.{Stop}
 use Rattle.py_data.specs.declared.stop.Out.TheVariants.{Output, ErrorOutput}
 use Rattle.py_data.specs.Heap.{Rec, Heap, is_tracked}
 use Rattle.py_data.specs.Sense.{touches}
@@ -18,7 +19,7 @@ use Rattle.stm_core.specs.declared.books.Books.{Books}
 use Rattle.stm_core.specs.declared.halt.Halt.{Halt}
 use Rattle.stm_core.specs.declared.halt.Halt.TheVariants.{Lost, NeedSolo, Full, ReadFault, WriteFault, ErrFault, OutOfMemory}
 use Rattle.stm_core.specs.declared.halt.LastStop.{LastStop}
-use Rattle.stm_core.specs.inner.Halts.{gave, goes_on}
+use Rattle.stm_core.specs.inner.Halts.{stop_of, gave, goes_on}
 use Rattle.stm_core.specs.Asking.{Changes, IsOuter, CallWants}
 use Rattle.stm_core.specs.CoreState.{Transaction, Doomed, Running, CoreState, no_world, with_segment, with_conflict}
 use Rattle.stm_core.specs.Conflict.{side, wins}
@@ -225,6 +226,12 @@ pub record Fails {S : Type 0} (k : ℕ) (me : Side) (a : ℕ) (d : Hold S) (s : 
   pub why : FailWhy k me a s e
   pub looked : (b : ℕ) → (e.meaning.part k).looked b ≡ true → ((d.meaning.part k).looked b ≡ true) ⊎ (b ≡ a)
   pub locks : (b : ℕ) → mem b (e.meaning.part k).changed ≡ true → (mem b (d.meaning.part k).changed ≡ true) ⊎ (b ≡ a)
+
+-- A call that is to hold the record a: the segment holds it, or the call failed for the Halt that the view gave last,
+-- which its answer says in a word.
+abbrev pub HoldsOrFails : {S A : Type 0} → ℕ → Side → ℕ → Hold S → Result A Stop → Hold S → Type 0
+HoldsOrFails k me a d (Ok u) e = Holds k me a d e
+HoldsOrFails k me a d (Err s) e = (s ≡ stop_of e.last.halt) × Fails k me a d e.last.halt e
 
 -- why a store refuses a call that may want so many words
 abbrev pub FaultWhy : (ℕ → Type 0) → ℕ → ℕ → StoreFault → Type 0

@@ -16,7 +16,7 @@ loop-steps-init g c = record {
 pub loop-steps-preserved : goal.loop-steps-preserved
 loop-steps-preserved g c =
     let p = g.C.Client.prog c.args.client.now in
-    let one = c.in-Ok-true.ensures.ok (piece_state c.args.view.now) c.loop-steps.steps c.args.state.now
+    let one = c.in-Ok-true.ensures (piece_state c.args.view.now) c.loop-steps.steps c.args.state.now
     c.loop-steps.invariant.walked in
     record {
       walked = walked_more one.0;
@@ -25,7 +25,7 @@ loop-steps-preserved g c =
 
 pub returns-in-Ok-false-clause-piece : goal.returns-in-Ok-false-clause-piece
 returns-in-Ok-false-clause-piece g c =
-    let one = c.in-Ok-false.ensures.ok (piece_state c.args.view.now) c.loop-steps.steps c.args.state.now
+    let one = c.in-Ok-false.ensures (piece_state c.args.view.now) c.loop-steps.steps c.args.state.now
     c.loop-steps.invariant.walked in
     walked_piece piece_state (g.C.Client.prog c.args.client.now) (g.C.Client.sound c.args.client.now)
     {v = c.step_here.new.view} (walked_more one.0)
@@ -33,48 +33,48 @@ returns-in-Ok-false-clause-piece g c =
 pub returns-in-Ok-false-clause-end : goal.returns-in-Ok-false-clause-end
 returns-in-Ok-false-clause-end g c =
     let p = g.C.Client.prog c.args.client.now in
-    let one = c.in-Ok-false.ensures.ok (piece_state c.args.view.now) c.loop-steps.steps c.args.state.now
+    let one = c.in-Ok-false.ensures (piece_state c.args.view.now) c.loop-steps.steps c.args.state.now
     c.loop-steps.invariant.walked in
     subst (λ b. Tells b (p.life c.step_here.new.state)) c.in-Ok-false.field-0-test one.1
 
 pub returns-in-Ok-false-clause-terms : goal.returns-in-Ok-false-clause-terms
 returns-in-Ok-false-clause-terms g c =
-    let one = c.in-Ok-false.ensures.ok (piece_state c.args.view.now) c.loop-steps.steps c.args.state.now
+    let one = c.in-Ok-false.ensures (piece_state c.args.view.now) c.loop-steps.steps c.args.state.now
     c.loop-steps.invariant.walked in
     walked_terms piece_state (g.C.Client.prog c.args.client.now) (g.C.Client.sound c.args.client.now)
     {v = c.step_here.new.view} one.0
 
 pub returns-in-Ok-false-clause-replayed : goal.returns-in-Ok-false-clause-replayed
 returns-in-Ok-false-clause-replayed g c =
-    let one = c.in-Ok-false.ensures.ok (piece_state c.args.view.now) c.loop-steps.steps c.args.state.now
+    let one = c.in-Ok-false.ensures (piece_state c.args.view.now) c.loop-steps.steps c.args.state.now
     c.loop-steps.invariant.walked in
     walked_replayed piece_state (g.C.Client.prog c.args.client.now) (g.C.Client.sound c.args.client.now)
     {v = c.step_here.new.view} one.0
 
 pub returns-in-Err-clause-piece : goal.returns-in-Err-clause-piece
 returns-in-Err-clause-piece g c =
-    let none = c.in-Err.ensures.err (piece_state c.args.view.now) c.loop-steps.steps c.args.state.now
+    let none = c.in-Err.ensures (piece_state c.args.view.now) c.loop-steps.steps c.args.state.now
     c.loop-steps.invariant.walked in
     walked_piece piece_state (g.C.Client.prog c.args.client.now) (g.C.Client.sound c.args.client.now)
     {v = c.step_here.new.view} none.0
 
 pub returns-in-Err-clause-end : goal.returns-in-Err-clause-end
 returns-in-Err-clause-end g c =
-    let none = c.in-Err.ensures.err (piece_state c.args.view.now) c.loop-steps.steps c.args.state.now
+    let none = c.in-Err.ensures (piece_state c.args.view.now) c.loop-steps.steps c.args.state.now
     c.loop-steps.invariant.walked in
     ends_early (g.C.Client.prog c.args.client.now) c.args.most c.loop-steps.steps c.step_here.new.state
     (piece_state c.step_here.new.view) c.in-Err.end none.1 (omega arith) none.2
 
 pub returns-in-Err-clause-terms : goal.returns-in-Err-clause-terms
 returns-in-Err-clause-terms g c =
-    let none = c.in-Err.ensures.err (piece_state c.args.view.now) c.loop-steps.steps c.args.state.now
+    let none = c.in-Err.ensures (piece_state c.args.view.now) c.loop-steps.steps c.args.state.now
     c.loop-steps.invariant.walked in
     walked_terms piece_state (g.C.Client.prog c.args.client.now) (g.C.Client.sound c.args.client.now)
     {v = c.step_here.new.view} none.0
 
 pub returns-in-Err-clause-replayed : goal.returns-in-Err-clause-replayed
 returns-in-Err-clause-replayed g c =
-    let none = c.in-Err.ensures.err (piece_state c.args.view.now) c.loop-steps.steps c.args.state.now
+    let none = c.in-Err.ensures (piece_state c.args.view.now) c.loop-steps.steps c.args.state.now
     c.loop-steps.invariant.walked in
     walked_replayed piece_state (g.C.Client.prog c.args.client.now) (g.C.Client.sound c.args.client.now)
     {v = c.step_here.new.view} none.0

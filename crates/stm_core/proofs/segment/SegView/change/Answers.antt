@@ -3,7 +3,7 @@ use Rattle.py_data.specs.Changes.{after}
 use Rattle.seg_store.specs.Meaning.{sees}
 use Rattle.stm_core.specs.Asking.{ChangeWants}
 use Rattle.stm_core.specs.inner.Hold.{holding, FaultWhy}
-use Rattle.stm_core.proofs.Changing.{can_ready, can_moved, change_done, change_refused, change_held_at, runs_moved, after_moved}
+use Rattle.stm_core.proofs.Changing.{can_ready, can_moved, change_done, change_refused, change_held_at, hold_refused, runs_moved, after_moved}
 use Rattle.stm_core.proofs.Peaks.{there_none, there_done, there_refused, there_held}
 use Rattle.stm_core.proofs.segment.SegView.change.Goals as goal
 
@@ -14,7 +14,7 @@ hold-requires-clause-tracked g c = (can_ready c.args.change
 pub change_held-requires-clause-held : goal.change_held-requires-clause-held
 change_held-requires-clause-held g c = change_held_at c.args.self.now.segment c.hold.new.self.segment c.args.a.0
     (g.S.SegStore.meaning c.args.self.now.store.now) (g.S.SegStore.meaning c.hold.new.self.store.now)
-    c.in-Ok.ensures.stays.0 c.in-Ok.ensures.ok.touched
+    c.in-Ok.ensures.stays.0 c.in-Ok.ensures.held.touched
 
 pub returns-in-Ok-change_held-clause-ok : goal.returns-in-Ok-change_held-clause-ok
 returns-in-Ok-change_held-clause-ok g c =
@@ -27,7 +27,7 @@ returns-in-Ok-change_held-clause-ok g c =
     (g.S.SegStore.reserved c.change_held.new.self.store.now) c.change_held.new.self.books.now
     c.change_held.new.self.progress.now c.change_held.new.self.last)
     c.requires.can c.requires.live (runs_moved c.hold.new.self.books.now.hands.items c.hold.new.self.segment
-    c.args.self.now.segment c.in-Ok.ensures.stays.0 c.hold.new.self.fits.out) c.in-Ok.ensures.ok
+    c.args.self.now.segment c.in-Ok.ensures.stays.0 c.hold.new.self.fits.out) c.in-Ok.ensures.held
     (after_moved c.args.self.now.segment c.hold.new.self.segment c.args.a.0 (after c.args.change)
     (g.S.SegStore.meaning c.hold.new.self.store.now) (g.S.SegStore.meaning c.change_held.new.self.store.now)
     c.in-Ok.ensures.stays.0 c.in-Ok-change_held.ensures.ok)
@@ -37,7 +37,7 @@ returns-in-Ok-change_held-clause-ok g c =
 pub change_held-requires-clause-can : goal.change_held-requires-clause-can
 change_held-requires-clause-can g c = can_moved c.args.self.now.segment c.hold.new.self.segment c.args.a.0
     c.args.change (g.S.SegStore.meaning c.args.self.now.store.now) (g.S.SegStore.meaning c.hold.new.self.store.now)
-    c.in-Ok.ensures.stays.0 c.in-Ok.ensures.ok.shown c.requires.can
+    c.in-Ok.ensures.stays.0 c.in-Ok.ensures.held.shown c.requires.can
 
 pub returns-in-Err-change_held-clause-err : goal.returns-in-Err-change_held-clause-err
 returns-in-Err-change_held-clause-err g c =
@@ -50,7 +50,7 @@ returns-in-Err-change_held-clause-err g c =
     c.hold.new.self.books.now c.hold.new.self.progress.now c.hold.new.self.last)
     (holding (g.S.SegStore.meaning c.refuse.new.self.store.now) (g.S.SegStore.reserved c.refuse.new.self.store.now)
     c.refuse.new.self.books.now c.refuse.new.self.progress.now c.refuse.new.self.last)
-    c.in-Err-change_held.fault c.in-Ok.ensures.ok (ap g.S.SegStore.meaning c.refuse.ensures.store ∙
+    c.in-Err-change_held.fault c.in-Ok.ensures.held (ap g.S.SegStore.meaning c.refuse.ensures.store ∙
     c.in-Err-change_held.ensures.err)
     (subst (λ n. g.S.SegStore.reserved c.hold.new.self.store.now ≤ n) same c.change_held.ensures.reserved)
     (c.refuse.ensures.books ∙ c.change_held.ensures.books) (c.refuse.ensures.progress ∙ c.change_held.ensures.progress)
@@ -59,6 +59,17 @@ returns-in-Err-change_held-clause-err g c =
     (g.S.SegStore.reserved c.refuse.new.self.store.now) m.limit c.in-Err-change_held.fault) c.in-Ok.ensures.stays.0
     (subst (λ n. FaultWhy (ChangeWants c.args.change (sees m c.hold.new.self.segment) c.args.a.0) n m.limit
     c.in-Err-change_held.fault) same c.in-Err-change_held.ensures.cause))
+
+pub returns-in-Err-clause-word : goal.returns-in-Err-clause-word
+returns-in-Err-clause-word g c = c.in-Err.ensures.held.0
+
+pub returns-in-Err-clause-err : goal.returns-in-Err-clause-err
+returns-in-Err-clause-err g c =
+    hold_refused c.args.self.now.segment c.args.self.now.side c.args.a.0 c.args.change
+    (holding (g.S.SegStore.meaning c.args.self.now.store.now) (g.S.SegStore.reserved c.args.self.now.store.now)
+    c.args.self.now.books.now c.args.self.now.progress.now c.args.self.now.last) c.hold.new.self.last.halt
+    (holding (g.S.SegStore.meaning c.hold.new.self.store.now) (g.S.SegStore.reserved c.hold.new.self.store.now)
+    c.hold.new.self.books.now c.hold.new.self.progress.now c.hold.new.self.last) c.in-Err.ensures.held.1
 
 pub returns-in-Ok-change_held-clause-tells : goal.returns-in-Ok-change_held-clause-tells
 returns-in-Ok-change_held-clause-tells g c =
@@ -77,7 +88,7 @@ returns-in-Err-change_held-clause-tells_err g c =
     (holding m (g.S.SegStore.reserved c.hold.new.self.store.now) c.hold.new.self.books.now
     c.hold.new.self.progress.now c.hold.new.self.last) c.hold.new.self.segment
     (g.S.SegStore.peaks c.args.self.now.store.now) (g.S.SegStore.peaks c.hold.new.self.store.now)
-    (g.S.SegStore.peaks c.refuse.new.self.store.now) c.in-Ok.ensures.ok c.in-Ok.ensures.stays.0 c.in-Ok.ensures.peaks
+    (g.S.SegStore.peaks c.refuse.new.self.store.now) c.in-Ok.ensures.held c.in-Ok.ensures.stays.0 c.in-Ok.ensures.peaks
     (there_refused c.hold.new.self.segment (g.S.SegStore.reserved c.change_held.new.self.store.now) m
     (g.S.SegStore.meaning c.change_held.new.self.store.now) c.hold.new.self.books.now c.hold.new.self.progress.now _
     (g.S.SegStore.peaks c.hold.new.self.store.now) (g.S.SegStore.peaks c.change_held.new.self.store.now)

@@ -11,8 +11,8 @@ invariant_of-self g c = record {
       c.args.self.now.fits c.lock.ensures.ok c.lock.ensures.err;
 }
 
-pub returns-in-Ok-clause-ok : goal.returns-in-Ok-clause-ok
-returns-in-Ok-clause-ok g c =
+pub returns-in-Ok-clause-held : goal.returns-in-Ok-clause-held
+returns-in-Ok-clause-held g c =
     holds_locked c.args.self.now.side c.args.a.0 c.args.self.now.segment
     (g.S.SegStore.meaning c.args.self.now.store.now) (g.S.SegStore.meaning c.lock.new.self)
     (g.S.SegStore.reserved c.args.self.now.store.now) (g.S.SegStore.reserved c.lock.new.self)
@@ -20,13 +20,15 @@ returns-in-Ok-clause-ok g c =
     c.args.self.now.last c.args.self.now.last c.args.self.now.fits.out c.known.ensures.store c.requires.there
     c.in-Ok.ensures.ok c.lock.ensures.reserved refl refl refl
 
-pub returns-in-Err-clause-err : goal.returns-in-Err-clause-err
-returns-in-Err-clause-err g c =
-    fails_memory c.args.self.now.segment c.args.self.now.side c.args.a.0
-    (g.S.SegStore.meaning c.args.self.now.store.now) (g.S.SegStore.meaning c.fail.new.self.store.now)
-    (g.S.SegStore.reserved c.args.self.now.store.now) (g.S.SegStore.reserved c.fail.new.self.store.now)
-    c.args.self.now.books.now c.fail.new.self.books.now c.args.self.now.progress.now c.fail.new.self.progress.now
-    c.args.self.now.last c.fail.new.self.last c.fail.ensures.last
-    (ap g.S.SegStore.meaning c.fail.ensures.store ∙ c.in-Err.ensures.err)
-    (ap g.S.SegStore.reserved c.fail.ensures.store ∙ c.lock.ensures.reserved) c.fail.ensures.books
-    c.fail.ensures.progress
+pub returns-in-Err-clause-held : goal.returns-in-Err-clause-held
+returns-in-Err-clause-held g c = (
+  c.fail.ensures.word,
+  fails_memory c.args.self.now.segment c.args.self.now.side c.args.a.0
+      (g.S.SegStore.meaning c.args.self.now.store.now) (g.S.SegStore.meaning c.fail.new.self.store.now)
+      (g.S.SegStore.reserved c.args.self.now.store.now) (g.S.SegStore.reserved c.fail.new.self.store.now)
+      c.args.self.now.books.now c.fail.new.self.books.now c.args.self.now.progress.now c.fail.new.self.progress.now
+      c.args.self.now.last c.fail.new.self.last c.fail.ensures.last
+      (ap g.S.SegStore.meaning c.fail.ensures.store ∙ c.in-Err.ensures.err)
+      (ap g.S.SegStore.reserved c.fail.ensures.store ∙ c.lock.ensures.reserved) c.fail.ensures.books
+      c.fail.ensures.progress,
+)

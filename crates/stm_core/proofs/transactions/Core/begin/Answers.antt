@@ -5,12 +5,12 @@ use Rattle.stm_core.specs.declared.begin.BeginError.TheVariants.{OutOfMemory}
 use Rattle.stm_core.specs.CoreState.{CoreState}
 use Rattle.stm_core.specs.Moves.{begun_at}
 use Rattle.stm_core.specs.Books.{Worlds, segment_of, core_of}
-use Rattle.stm_core.specs.inner.Whole.{Whole, SameShape}
+use Rattle.stm_core.specs.inner.Whole.{SameShape}
 use Rattle.stm_core.specs.Begun.{IsUnready, Begun, CountsSteps}
 use Rattle.seg_store.specs.Store.{IsStore}
 use Rattle.stm_core.specs.Outside.{InCore}
 use Rattle.stm_core.proofs.Calling.{blank, Quiet, quiet_good, quiet_job, quiet_leads, rose_same, with_spent, begun_kept, le_same}
-use Rattle.stm_core.proofs.Beginning.{sound_core, roomy_whole, core_roomy, caused_whole, begun_state, begun_stands}
+use Rattle.stm_core.proofs.Beginning.{Rooms, rooms_made, whole_roomy, core_roomy_in, sound_core, caused_whole, begun_state, begun_stands}
 use Rattle.stm_core.proofs.transactions.Core.begin.Goals as goal
 
 pub returns-then-not-is_ready-clause-begun : goal.returns-then-not-is_ready-clause-begun
@@ -44,16 +44,12 @@ make_work-requires-clause-there g c = let r = c.is_ready.ensures.yes c.if-not-is
 
 pub start-requires-clause-whole : goal.start-requires-clause-whole
 start-requires-clause-whole g c =
+    let x = c.args.self.now in
+    let y = c.make_work.new.self in
     let e = c.make_work.ensures in
-    subst (λ s. Whole (g.S.SegStore.meaning s) c.make_work.new.self.books) (sym (ap (λ s. s.store) e.rest))
-    (roomy_whole (g.S.SegStore.meaning c.args.self.now.store) c.args.self.now.books c.make_work.new.self.books
-    (record {
-      rest = ap (λ s. s.books) e.rest;
-      turns = e.turns;
-      turns_kept = e.turns_kept;
-      losses = e.losses;
-      losses_kept = e.losses_kept;
-    }) c.requires.good.whole)
+    whole_roomy g.S.SegStore.meaning x.store y.store x.books y.books (ap (λ s. s.store) e.rest)
+    (rooms_made x.books y.books (ap (λ s. s.books) e.rest) e.turns e.turns_kept e.losses e.losses_kept)
+    c.requires.good.whole
 
 pub returns-in-Ok : goal.returns-in-Ok
 returns-in-Ok g c =
@@ -62,17 +58,9 @@ returns-in-Ok g c =
     let x = c.args.self.now in
     let m = g.S.SegStore.meaning x.store in
     let e = c.make_work.ensures in
-    let still : (w : Worlds) → core_of w (g.S.SegStore.meaning c.make_work.new.self.store) c.make_work.new.self.books ≡
-    core_of w m x.books = λ w.
-    ap (λ z. core_of w (g.S.SegStore.meaning z) c.make_work.new.self.books) (ap (λ z. z.store) e.rest)
-    ∙ core_roomy m x.books c.make_work.new.self.books
-    (record {
-      rest = ap (λ z. z.books) e.rest;
-      turns = e.turns;
-      turns_kept = e.turns_kept;
-      losses = e.losses;
-      losses_kept = e.losses_kept;
-    }) w in
+    let u = c.make_work.new.self in
+    let rooms : Rooms x.books u.books =
+    rooms_made x.books u.books (ap (λ z. z.books) e.rest) e.turns e.turns_kept e.losses e.losses_kept in
     let y = c.start.new.self in
     let v = c.in-Ok.work in
     let begun : (w : Worlds) → Begun p c.args.k c.args.t x.budget (Ok tt) (core_of w m x.books)
@@ -85,7 +73,8 @@ returns-in-Ok g c =
         short = c.is_spent.ensures.not c.if-is_spent.false;
         few = let n = c.if-self.false in omega (arith, n);
       }),
-      c.start.ensures.core w ∙ ap (begun_at c.args.k v.thread v.state) (still w) ∙
+      c.start.ensures.core w ∙ ap (begun_at c.args.k v.thread v.state)
+          (core_roomy_in g.S.SegStore.meaning x.store u.store x.books u.books (ap (λ z. z.store) e.rest) rooms w) ∙
           ap (λ t. begun_at c.args.k t v.state (core_of w m x.books)) c.in-Ok.ensures.fresh.thread
           ∙ begun_state p c.args.k c.args.t (core_of w m x.books) v.state
           (c.is_ready.ensures.yes c.if-not-is_ready.false w) c.in-Ok.ensures.fresh.state,
@@ -129,17 +118,9 @@ returns-in-Err g c =
     let x = c.args.self.now in
     let m = g.S.SegStore.meaning x.store in
     let e = c.make_work.ensures in
-    let still : (w : Worlds) → core_of w (g.S.SegStore.meaning c.make_work.new.self.store) c.make_work.new.self.books ≡
-    core_of w m x.books = λ w.
-    ap (λ z. core_of w (g.S.SegStore.meaning z) c.make_work.new.self.books) (ap (λ z. z.store) e.rest)
-    ∙ core_roomy m x.books c.make_work.new.self.books
-    (record {
-      rest = ap (λ z. z.books) e.rest;
-      turns = e.turns;
-      turns_kept = e.turns_kept;
-      losses = e.losses;
-      losses_kept = e.losses_kept;
-    }) w in
+    let u = c.make_work.new.self in
+    let rooms : Rooms x.books u.books =
+    rooms_made x.books u.books (ap (λ z. z.books) e.rest) e.turns e.turns_kept e.losses e.losses_kept in
     let b = record c.make_work.new.self.books { cause = Some NoMemoryLeft } in
     let y = record c.make_work.new.self { books = b } in
     let begun : (w : Worlds) → Begun p c.args.k c.args.t x.budget (Err OutOfMemory) (core_of w m x.books)
@@ -152,7 +133,8 @@ returns-in-Err g c =
         short = c.is_spent.ensures.not c.if-is_spent.false;
         few = let n = c.if-self.false in omega (arith, n);
       }),
-      ap (λ (k : CoreState g.row.C-State.Denot). record k { cause = Some NoMemoryLeft }) (still w),
+      ap (λ (k : CoreState g.row.C-State.Denot). record k { cause = Some NoMemoryLeft })
+          (core_roomy_in g.S.SegStore.meaning x.store u.store x.books u.books (ap (λ z. z.store) e.rest) rooms w),
     ) in
     let shape : SameShape m (g.S.SegStore.meaning y.store) = (
       ap (λ z. (g.S.SegStore.meaning z.store).segments) e.rest,
@@ -165,17 +147,9 @@ returns-in-Err g c =
       shape = shape;
       store = subst (λ z. IsStore (g.S.SegStore.reserved z) (g.S.SegStore.meaning z)) (sym (ap (λ z. z.store) e.rest))
           c.known.ensures.store;
-      whole = caused_whole (g.S.SegStore.meaning c.make_work.new.self.store) c.make_work.new.self.books
-          (Some NoMemoryLeft)
-          (subst (λ z. Whole (g.S.SegStore.meaning z) c.make_work.new.self.books) (sym (ap (λ z. z.store) e.rest))
-          (roomy_whole m x.books c.make_work.new.self.books
-          (record {
-            rest = ap (λ z. z.books) e.rest;
-            turns = e.turns;
-            turns_kept = e.turns_kept;
-            losses = e.losses;
-            losses_kept = e.losses_kept;
-          }) c.requires.good.whole));
+      whole = caused_whole (g.S.SegStore.meaning u.store) u.books (Some NoMemoryLeft)
+          (whole_roomy g.S.SegStore.meaning x.store u.store x.books u.books (ap (λ z. z.store) e.rest) rooms
+          c.requires.good.whole);
       count = ap (λ z. z.spent) e.rest ∙ subst (λ l. CountsSteps x.spent l) (sym e.turns) c.requires.good.count;
       kept = begun_kept p _ _ _ _ (le_same _ _ (ap (λ z. g.S.SegStore.reserved z.store) e.rest)) shape.1
           (core_of blank m x.books) (core_of blank (g.S.SegStore.meaning y.store) y.books) c.requires.good.kept

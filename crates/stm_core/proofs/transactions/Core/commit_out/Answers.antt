@@ -1,4 +1,4 @@
-use Rattle.std.proofs.Common.{◌≢◌, ◌<◌, Some, None, length, sym, ap, subst, ◌∙◌, arith}
+use Rattle.std.proofs.Common.{◌≢◌, Some, None, length, sym, ap, subst, ◌∙◌, arith}
 use Rattle.std.specs.List.{range_with_len}
 use Rattle.stm_core.specs.CoreState.{with_conflict}
 use Rattle.stm_core.specs.Moves.{published}
@@ -7,7 +7,7 @@ use Rattle.stm_core.specs.inner.Trying.{core_with}
 use Rattle.stm_core.specs.Begun.{CountsSteps}
 use Rattle.stm_core.specs.inner.Readers.{FirstBeats}
 use Rattle.stm_core.proofs.Committing.{none_wins, beaten_is}
-use Rattle.stm_core.proofs.Publishing.{left_idle, dooms_keep}
+use Rattle.stm_core.proofs.Publishing.{left_idle, dooms_keep, thread_still, count_still}
 use Rattle.stm_core.proofs.Calling.{blank}
 use Rattle.stm_core.proofs.transactions.Core.commit_out.Goals as goal
 
@@ -24,19 +24,15 @@ returns-then-work-eq0-clause-ends g c = λ w. (
 
 pub publish-requires-clause-thread : goal.publish-requires-clause-thread
 publish-requires-clause-thread g c =
-    let m = g.S.SegStore.meaning c.args.self.now.store in
-    let e = ap (λ k. k.threads) (c.doom_readers.ensures.core blank) ∙
-    (dooms_keep c.args.k (transaction blank.own (m.part c.args.k) c.args.work) (range_with_len 0 m.segments)
-    (core_with blank c.args.k m c.args.self.now.books c.args.work)).0 in
-    subst (λ l. c.args.work.thread < length l) (sym e) c.requires.thread
+    thread_still blank c.args.k (g.S.SegStore.meaning c.args.self.now.store)
+    (g.S.SegStore.meaning c.doom_readers.new.self.store) c.args.self.now.books c.doom_readers.new.self.books
+    c.args.work (c.doom_readers.ensures.core blank) c.requires.thread
 
 pub publish-requires-clause-count : goal.publish-requires-clause-count
 publish-requires-clause-count g c =
-    let m = g.S.SegStore.meaning c.args.self.now.store in
-    let e = ap (λ k. k.history) (c.doom_readers.ensures.core blank) ∙
-    (dooms_keep c.args.k (transaction blank.own (m.part c.args.k) c.args.work) (range_with_len 0 m.segments)
-    (core_with blank c.args.k m c.args.self.now.books c.args.work)).1 in
-    ap (λ s. s.spent) c.doom_readers.ensures.rest ∙ subst (λ l. CountsSteps c.args.self.now.spent l) (sym e)
+    count_still blank c.args.k (g.S.SegStore.meaning c.args.self.now.store)
+    (g.S.SegStore.meaning c.doom_readers.new.self.store) c.args.self.now.books c.doom_readers.new.self.books
+    c.args.work (c.doom_readers.ensures.core blank) _ _ (ap (λ s. s.spent) c.doom_readers.ensures.rest)
     c.requires.count
 
 pub returns-in-Some-clause-count : goal.returns-in-Some-clause-count

@@ -1,29 +1,23 @@
-use Rattle.std.proofs.Common.{◌<◌, ap, subst, sym, ◌∙◌, length}
-use Rattle.std.specs.List.{range_with_len}
+use Rattle.std.proofs.Common.{ap, ◌∙◌}
 use Rattle.stm_core.specs.Moves.{published}
 use Rattle.stm_core.specs.Books.{worlds_after, transaction}
 use Rattle.stm_core.specs.inner.Trying.{core_with}
-use Rattle.stm_core.specs.Begun.{CountsSteps}
-use Rattle.stm_core.proofs.Publishing.{left_idle, dooms_keep}
+use Rattle.stm_core.proofs.Publishing.{left_idle, thread_still, count_still}
 use Rattle.stm_core.proofs.Breaking.{whole_none, whole_some}
 use Rattle.stm_core.proofs.Calling.{blank}
 use Rattle.stm_core.proofs.transactions.Core.commit_whole.Goals as goal
 
 pub publish-requires-clause-thread : goal.publish-requires-clause-thread
 publish-requires-clause-thread g c =
-    let m = g.S.SegStore.meaning c.args.self.now.store in
-    let e = ap (λ k. k.threads) (c.doom_readers.ensures.core blank) ∙
-    (dooms_keep c.args.k (transaction blank.own (m.part c.args.k) c.args.work) (range_with_len 0 m.segments)
-    (core_with blank c.args.k m c.args.self.now.books c.args.work)).0 in
-    subst (λ l. c.args.work.thread < length l) (sym e) c.requires.thread
+    thread_still blank c.args.k (g.S.SegStore.meaning c.args.self.now.store)
+    (g.S.SegStore.meaning c.doom_readers.new.self.store) c.args.self.now.books c.doom_readers.new.self.books
+    c.args.work (c.doom_readers.ensures.core blank) c.requires.thread
 
 pub publish-requires-clause-count : goal.publish-requires-clause-count
 publish-requires-clause-count g c =
-    let m = g.S.SegStore.meaning c.args.self.now.store in
-    let e = ap (λ k. k.history) (c.doom_readers.ensures.core blank) ∙
-    (dooms_keep c.args.k (transaction blank.own (m.part c.args.k) c.args.work) (range_with_len 0 m.segments)
-    (core_with blank c.args.k m c.args.self.now.books c.args.work)).1 in
-    ap (λ s. s.spent) c.doom_readers.ensures.rest ∙ subst (λ l. CountsSteps c.args.self.now.spent l) (sym e)
+    count_still blank c.args.k (g.S.SegStore.meaning c.args.self.now.store)
+    (g.S.SegStore.meaning c.doom_readers.new.self.store) c.args.self.now.books c.doom_readers.new.self.books
+    c.args.work (c.doom_readers.ensures.core blank) _ _ (ap (λ s. s.spent) c.doom_readers.ensures.rest)
     c.requires.count
 
 pub returns-then-work-eq0-clause-core : goal.returns-then-work-eq0-clause-core
