@@ -1,4 +1,5 @@
--- The items of a range lie between its start and its stop, so they have 64 bits.
+-- The items of a range lie between its start and its stop, so they have 64 bits; and the numbers by which code counts
+-- one.
 use Rattle.std.proofs.Common.{◌≡◌, ℕ, zero, suc, ◌*◌, ◌<◌, ◌≤◌, ◌/◌, ◌^◌, ℤ, pos, negsuc, neg_ℤ, ◌+ℤ◌, ◌-ℤ◌, ◌*ℤ◌, ◌≤ℤ◌, FitsSigned, w64, to_z, of_z, refl, sym, subst, arith}
 use mir.Syntax.{w128}
 use Rattle.std.proofs.Math.Facts.{sfits_widen}

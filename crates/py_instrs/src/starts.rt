@@ -1,5 +1,5 @@
 //! Threads that are started.
-ghost use Rattle.std.specs.Prelude.{◌≡◌, ◌++◌, IfOk};
+ghost use Rattle.std.specs.Prelude.{◌≡◌, ◌∷◌, ◌++◌, IfOk};
 ghost use Rattle.py_data.specs.Sense.{Meets, Safe, IsLive};
 ghost use Rattle.py_frames.specs.Binding as binding;
 ghost use Rattle.py_frames.specs.CallRows as call_rows;
@@ -139,7 +139,7 @@ fn bound_plainly<S, V: View<S>>(
 /// The thread starts with the call of the Function at an address, with the arguments before and then the others. They
 /// are bound before anything is changed.
 #[tactic(auto, using(py_data::proofs::Rows::row_steps, py_data::proofs::Steps::call_steps), unfolding(py_frames::specs::CallRows::function_start))]
-fn function_start<V: View<ThreadState>>(
+fn passed_start<V: View<ThreadState>>(
     alloc: Global,
     v: &mut V,
     s: &Site<'_>,
@@ -155,6 +155,42 @@ fn function_start<V: View<ThreadState>>(
 {
     let got = bound_plainly(alloc, v, s, before, args, f)?;
     thread_row(alloc, v, s.roots, thread, got)
+}
+
+/// The thread starts with the call of the Function at an address, with these arguments.
+#[tactic(auto, using(py_data::proofs::Rows::row_steps))]
+fn function_start<V: View<ThreadState>>(
+    alloc: Global,
+    v: &mut V,
+    s: &Site<'_>,
+    thread: Option<Addr>,
+    args: &[Value],
+    f: Addr,
+) -> Result<Next, Stop>
+    requires live { IsLive V.sense v.old }
+    requires safe { Safe V.sense.partial (call_rows.function_start s.now thread args.now f.0) (V.sense.heap v.old) }
+    ensures { Meets V.sense (call_rows.function_start s.now thread args.now f.0) v.old v.new result }
+{
+    passed_start(alloc, v, s, thread, &[], args, f)
+}
+
+/// The same, where one argument more stands before all others.
+#[tactic(auto, using(py_data::proofs::Rows::row_steps))]
+fn first_start<V: View<ThreadState>>(
+    alloc: Global,
+    v: &mut V,
+    s: &Site<'_>,
+    thread: Option<Addr>,
+    own: Value,
+    args: &[Value],
+    f: Addr,
+) -> Result<Next, Stop>
+    requires live { IsLive V.sense v.old }
+    requires safe { Safe V.sense.partial (call_rows.function_start s.now thread (own ∷ args.now) f.0)
+        (V.sense.heap v.old) }
+    ensures { Meets V.sense (call_rows.function_start s.now thread (own ∷ args.now) f.0) v.old v.new result }
+{
+    passed_start(alloc, v, s, thread, &[own], args, f)
 }
 
 /// The thread starts with the call of a Method, whose own object is the first argument.
@@ -173,7 +209,7 @@ fn owned_start<V: View<ThreadState>>(
     ensures { Meets V.sense (call_rows.owned_start s.now thread args.now a.0 f.0) v.old v.new result }
 {
     let own = look(v, a, 1)?;
-    function_start(alloc, v, s, thread, &[own], args, f)
+    first_start(alloc, v, s, thread, own, args, f)
 }
 
 /// The thread starts with the call of a record of a kind.
@@ -196,7 +232,7 @@ fn target_start<V: View<ThreadState>>(
             let f = look(v, a, 0)?;
             owned_start(alloc, v, s, thread, args, a, place_in(f))
         }
-        _ => function_start(alloc, v, s, thread, &[], args, a),
+        _ => function_start(alloc, v, s, thread, args, a),
     }
 }
 

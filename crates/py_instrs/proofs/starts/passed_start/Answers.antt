@@ -4,7 +4,7 @@ use Rattle.py_data.proofs.Steps.{live-after, safe-then}
 use Rattle.py_frames.specs.Binding.{bound_row, plainly}
 use Rattle.py_frames.specs.CallRows.{function_start, thread_row}
 use Rattle.py_frames.specs.ClassCalls.{Site}
-use Rattle.py_instrs.proofs.starts.function_start.Goals as goal
+use Rattle.py_instrs.proofs.starts.passed_start.Goals as goal
 
 pub thread_row-requires-clause-live : goal.thread_row-requires-clause-live
 thread_row-requires-clause-live g c = let s = c.args.s.now in
