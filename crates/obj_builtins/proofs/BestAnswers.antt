@@ -1,5 +1,5 @@
 -- `min` and `max` of numbers are the first of the least and the first of the greatest.
-use Rattle.std.proofs.Common.{arith, ◌≡◌, ℕ, zero, suc, ℤ, ◌+◌, Bool, true, false, cond, List, [], ◌∷◌, ◌++◌, length, Option, Some, None, refl, sym, ap, subst, ◌∙◌, append_assoc, append-nil, length-append, ◌<ℤ◌}
+use Rattle.std.proofs.Common.{arith, ◌≡◌, ℕ, ℤ, ◌+◌, Bool, true, false, cond, List, [], ◌∷◌, ◌++◌, length, Option, Some, None, refl, sym, ap, subst, ◌∙◌, append_assoc, append-nil, length-append, ◌<ℤ◌}
 use Rattle.std.specs.Prelude.{int_lt}
 use Rattle.std.specs.Ordering.{int_cmp}
 use Rattle.std.specs.declared.cmp.Ordering.{Ordering}
@@ -12,7 +12,7 @@ use Rattle.py_data.specs.declared.record.Got.TheVariants.{Is}
 use Rattle.py_data.specs.declared.value.Value.{Value}
 use Rattle.py_data.specs.declared.value.Value.TheVariants.{Unset, None as NoneValue, Bool as BoolValue, Int, Ref, Builtin}
 use Rattle.py_data.specs.Closed.{IsItem}
-use Rattle.py_data.specs.Comparing.{number_of, order, order_numbers, order_by, order_within}
+use Rattle.py_data.specs.Comparing.{number_of, order}
 use Rattle.py_data.specs.Every.{Every}
 use Rattle.py_data.specs.Heap.{Heap, value_at}
 use Rattle.py_data.specs.Looking.{Looks, each_row, got_row}
@@ -23,37 +23,13 @@ use Rattle.py_data.proofs.Looking.{looks_ret, looks_then}
 use Rattle.obj_nest.specs.Laws.{IsNumber}
 use Rattle.obj_nest.specs.Ordering.{order_row}
 use Rattle.obj_nest.proofs.NestLooks as nest
+use Rattle.obj_nest.proofs.NumberOrder.{number_order}
 use Rattle.obj_ops.proofs.NumbersHold.{int_item, bool_item}
 use Rattle.obj_builtins.specs.declared.best.Side.{Side}
 use Rattle.obj_builtins.specs.declared.best.Side.TheVariants.{Least, Greatest}
 use Rattle.obj_builtins.specs.Best.{is_better, better, better_row, best_from, best_of, best_by, best_row}
 use Rattle.obj_builtins.specs.Functions.{later_row, function_row}
 use Rattle.obj_builtins.specs.Laws.{wanted, IsBetter, IsBest, GivesBest, BestLaw}
-
--- ---- the order of numbers
-by_numbers : (h : Heap) (items : List Value → List Value → Got Ordering) (x y : Value) (i : ℤ) → number_of x ≡ Some i →
-    order_by h items x y ≡ order_numbers (number_of x) (number_of y)
-by_numbers h items (Int n) y i e = refl
-by_numbers h items (BoolValue b) y i e = refl
-by_numbers h items Unset y i e = absurd (let q : ◌≡◌ {A = Option ℤ} None (Some i) = e in cc)
-by_numbers h items NoneValue y i e = absurd (let q : ◌≡◌ {A = Option ℤ} None (Some i) = e in cc)
-by_numbers h items (Ref a) y i e = absurd (let q : ◌≡◌ {A = Option ℤ} None (Some i) = e in cc)
-by_numbers h items (Builtin b) y i e = absurd (let q : ◌≡◌ {A = Option ℤ} None (Some i) = e in cc)
-
-two_numbers : (h : Heap) (items : List Value → List Value → Got Ordering) (x y : Value) (i j : ℤ) →
-    number_of x ≡ Some i → number_of y ≡ Some j → order_by h items x y ≡ Is (int_cmp i j)
-two_numbers h items x y i j ex ey = by_numbers h items x y i ex ∙
-    (ap (λ o. order_numbers o (number_of y)) ex ∙ ap (order_numbers (Some i)) ey)
-
-within_ordered : (h : Heap) (d : ℕ) (x y : Value) (i j : ℤ) → number_of x ≡ Some i → number_of y ≡ Some j →
-    order_within h d x y ≡ Is (int_cmp i j)
-unfolding order_within
-within_ordered h zero x y i j ex ey = two_numbers h _ x y i j ex ey
-within_ordered h (suc d) x y i j ex ey = two_numbers h _ x y i j ex ey
-
-ordered : (h : Heap) (x y : Value) (i j : ℤ) → number_of x ≡ Some i → number_of y ≡ Some j →
-    order h x y ≡ Is (int_cmp i j)
-ordered h x y i j ex ey = within_ordered h 100 x y i j ex ey
 
 number_item : (h : Heap) (x : Value) (i : ℤ) → number_of x ≡ Some i → IsItem h x
 number_item h (Int n) i e = int_item h n
@@ -184,10 +160,10 @@ best_is h side vs y j f = record {
   front = f.front;
   back = f.back;
   is = f.is;
-  before = every_weaken (Worse side j) (λ z. IsBetter h side y z) (λ z w. ordered h y z j w.0 f.number w.1 ∙
+  before = every_weaken (Worse side j) (λ z. IsBetter h side y z) (λ z w. number_order h y z j w.0 f.number w.1 ∙
       ap Is (wins side j w.0 w.2)) f.front f.before;
   behind = every_weaken (NoBetter side j) (λ z. IsBetter h side z y → ⊥)
-      (λ z w b. w.2 (beats_is side w.0 j (of (int_cmp w.0 j) (sym (ordered h z y w.0 j w.1 f.number) ∙ b)))) f.back
+      (λ z w b. w.2 (beats_is side w.0 j (of (int_cmp w.0 j) (sym (number_order h z y w.0 j w.1 f.number) ∙ b)))) f.back
       f.behind;
 }
   where
@@ -210,7 +186,7 @@ module _ (S : Type 0) (rules : Rules) (h : Heap) (order1 : IsOrdered rules h) (s
       (λ g q. looks_ret S (Chooses (vs ++ x ∷ [])) (better side y x g) h (
         cond (is_better side c) x y,
         cond (is_better side c) i j,
-        ap (better side y x) (q ∙ ordered h x y i j e f.number),
+        ap (better side y x) (q ∙ number_order h x y i j e f.number),
         next_found side vs x y i j f e (is_better side c) refl,
       ))
 

@@ -1,9 +1,8 @@
 -- Over each heap in order each builtin function holds.
-use Rattle.std.proofs.Common.{arith, ◌≡◌, ◌≢◌, ℕ, zero, suc, ℤ, pos, neg_ℤ, ◌+◌, ◌≤◌, ◌==◌, Bool, true, false, cond, leb, List, [], ◌∷◌, length, Option, Some, None, codes, refl, sym, ap, ◌∙◌, lit<, length-append}
+use Rattle.std.proofs.Common.{arith, ◌≡◌, ◌≢◌, ℕ, zero, suc, ℤ, pos, neg_ℤ, ◌+◌, ◌≤◌, ◌==◌, Bool, true, false, cond, leb, List, [], ◌∷◌, length, Option, Some, None, refl, sym, ap, ◌∙◌, lit<, length-append}
 use Rattle.std.specs.Prelude.{IfSome, int_lt}
 use Rattle.std.specs.Ordering.{int_eq}
 use Rattle.std.proofs.lemmas.Bool.{leb-true}
-use Rattle.py_base.specs.Numbers.{builtin_number}
 use Rattle.py_base.specs.declared.kind.Kind.{Kind}
 use Rattle.py_base.specs.declared.kind.Kind.TheVariants.{Str, Tuple, List as ListKind, Dict, Cell, Function, Class, Range}
 use Rattle.py_data.specs.declared.value.Value.{Value}
@@ -42,6 +41,7 @@ use Rattle.obj_str.proofs.StrHolds.{new_text_holds}
 use Rattle.obj_nest.specs.Ordering.{order_row}
 use Rattle.obj_nest.specs.Truth.{truth_row}
 use Rattle.obj_nest.proofs.NestLooks.{truth_looks}
+use Rattle.obj_ops.specs.Format.{number_in}
 use Rattle.obj_ops.specs.Numbers.{is_narrow, narrowed, overflow_fault}
 use Rattle.obj_ops.specs.Sequences.{made_row, new_items}
 use Rattle.obj_ops.proofs.Nested.{order_looks}
@@ -61,13 +61,13 @@ use Rattle.obj_builtins.specs.Arguments.{few, form_row}
 use Rattle.obj_builtins.specs.Lengths.{is_counted, length_row, len_row}
 use Rattle.obj_builtins.specs.Ranges.{step_fault, bounds_of, count_in, numbers_made, numbers_within, range_row, range_values, range_made, range_within, xrange_row}
 use Rattle.obj_builtins.specs.Literals.{literal_fault, is_numeral, value_after, with_sign, signed_number, stripped_number, text_number}
-use Rattle.obj_builtins.specs.Numbers.{read_row, int_of, int_alone, int_row, bool_alone, bool_row, absolute, absolute_in, number_in, abs_row, byte_fault, byte_of, letter_row, letter_of, chr_row}
+use Rattle.obj_builtins.specs.Numbers.{read_row, int_of, int_alone, int_row, bool_alone, bool_row, absolute, absolute_in, abs_row, byte_fault, byte_of, letter_row, letter_of, chr_row}
 use Rattle.obj_builtins.specs.Texts.{written_row, str_of, str_alone, str_row, repr_row, byte_value, byte_row, ord_of, ord_alone, ord_row}
 use Rattle.obj_builtins.specs.Gathering.{items_made, gathered_row, list_row, tuple_of, tuple_alone, tuple_row, dict_row, sorted_items, sorted_alone, sorted_by}
 use Rattle.obj_builtins.specs.Kinds.{isinstance_row}
 use Rattle.obj_builtins.specs.Best.{sequence_fault, is_better, better, better_row, best_from, best_of, best_in, best_by, best_row}
 use Rattle.obj_builtins.specs.Sums.{held, added, summed, sum_value, sum_items, sum_alone, sum_row}
-use Rattle.obj_builtins.specs.Functions.{later_row, function_row}
+use Rattle.obj_builtins.specs.Functions.{function_row}
 use Rattle.obj_builtins.specs.HoldsLaws.{FunctionsHold}
 use Rattle.obj_builtins.proofs.FormLooks.{IsForm, form_looks, answer_holds}
 use Rattle.obj_builtins.proofs.LengthLooks.{length_told}
@@ -488,105 +488,31 @@ module _ {S : Type 0} (rules : Rules) (stands : Heap → S → Type 0) where
   -- ---- all
   module _ (h : Heap) (order : IsOrdered rules h) (roots : ℕ) (known : IsRoots h roots) (b : ℕ) (args : List Value)
       (i : Every (IsItem h) args) where
-    -- from the last one on
-    abbrev from_sorted : Row S (Got Value)
-    from_sorted = cond (b == builtin_number (codes "sorted")) (sorted_by (only args)) (Ret (Raise operand_fault))
-
-    abbrev from_sum : Row S (Got Value)
-    from_sum = cond (b == builtin_number (codes "sum")) (sum_row (only args)) from_sorted
-
-    abbrev from_max : Row S (Got Value)
-    from_max = cond (b == builtin_number (codes "max")) (best_row Greatest args) from_sum
-
-    abbrev from_min : Row S (Got Value)
-    from_min = cond (b == builtin_number (codes "min")) (best_row Least args) from_max
-
-    abbrev from_abs : Row S (Got Value)
-    from_abs = cond (b == builtin_number (codes "abs")) (abs_row (only args)) from_min
-
-    abbrev from_chr : Row S (Got Value)
-    from_chr = cond (b == builtin_number (codes "chr")) (chr_row (only args)) from_abs
-
-    abbrev from_ord : Row S (Got Value)
-    from_ord = cond (b == builtin_number (codes "ord")) (ord_row (only args)) from_chr
-
-    abbrev from_isinstance : Row S (Got Value)
-    from_isinstance = cond (b == builtin_number (codes "isinstance")) (isinstance_row roots (both args)) from_ord
-
-    max_holds : Good from_max h
-    max_holds =
-        cond_holds (b == builtin_number (codes "max")) (best_row Greatest args) from_sum h
-        (best_row_holds Greatest args h order i)
-        (cond_holds (b == builtin_number (codes "sum")) (sum_row (only args)) from_sorted h
-        (sum_holds (only args) h order (only_good h args i))
-        (cond_holds (b == builtin_number (codes "sorted")) (sorted_by (only args)) (Ret (Raise operand_fault)) h
-        (sorted_by_holds (only args) h order (only_good h args i)) (raises operand_fault h (lit< tt, lit< tt, tt))))
-
-    ord_on_holds : Good from_ord h
-    ord_on_holds =
-        cond_holds (b == builtin_number (codes "ord")) (ord_row (only args)) from_chr h
-        (ord_holds (only args) h order (only_good h args i))
-        (cond_holds (b == builtin_number (codes "chr")) (chr_row (only args)) from_abs h (chr_holds (only args) h order)
-        (cond_holds (b == builtin_number (codes "abs")) (abs_row (only args)) from_min h (abs_holds (only args) h)
-        (cond_holds (b == builtin_number (codes "min")) (best_row Least args) from_max h
-        (best_row_holds Least args h order i) max_holds)))
-
-    later_holds : Good (later_row roots b args) h
-    unfolding later_row
-    later_holds =
-        cond_holds (b == builtin_number (codes "dict")) (dict_row (few args)) from_isinstance h
-        (dict_holds (few args) h)
-        (cond_holds (b == builtin_number (codes "isinstance")) (isinstance_row roots (both args)) from_ord h
-        (isinstance_holds roots (both args) h order known (both_good h args i)) ord_on_holds)
-
-    abbrev from_tuple : Row S (Got Value)
-    from_tuple = cond (b == builtin_number (codes "tuple")) (tuple_row (few args)) (later_row roots b args)
-
-    abbrev from_list : Row S (Got Value)
-    from_list = cond (b == builtin_number (codes "list")) (list_row (few args)) from_tuple
-
-    abbrev from_bool : Row S (Got Value)
-    from_bool = cond (b == builtin_number (codes "bool")) (bool_row (few args)) from_list
-
-    abbrev from_int : Row S (Got Value)
-    from_int = cond (b == builtin_number (codes "int")) (int_row (few args)) from_bool
-
-    abbrev from_repr : Row S (Got Value)
-    from_repr = cond (b == builtin_number (codes "repr")) (repr_row roots (only args)) from_int
-
-    abbrev from_str : Row S (Got Value)
-    from_str = cond (b == builtin_number (codes "str")) (str_row roots (few args)) from_repr
-
-    abbrev from_xrange : Row S (Got Value)
-    from_xrange = cond (b == builtin_number (codes "xrange")) (xrange_row (bounds_of args)) from_str
-
-    abbrev from_range : Row S (Got Value)
-    from_range = cond (b == builtin_number (codes "range")) (range_row (bounds_of args)) from_xrange
-
-    int_on_holds : Good from_int h
-    int_on_holds =
-        cond_holds (b == builtin_number (codes "int")) (int_row (few args)) from_bool h
-        (int_holds (few args) h order (few_good h args i))
-        (cond_holds (b == builtin_number (codes "bool")) (bool_row (few args)) from_list h
-        (bool_holds (few args) h order (few_good h args i))
-        (cond_holds (b == builtin_number (codes "list")) (list_row (few args)) from_tuple h
-        (list_holds (few args) h order (few_good h args i))
-        (cond_holds (b == builtin_number (codes "tuple")) (tuple_row (few args)) (later_row roots b args) h
-        (tuple_holds (few args) h order (few_good h args i)) later_holds)))
+    each_holds : Each (λ row. Good row h) roots args
+    each_holds = record {
+      len = len_holds (only args) h (only_good h args i);
+      range = range_holds (bounds_of args) h;
+      xrange = xrange_holds (bounds_of args) h;
+      str = str_row_holds roots (few args) h order known (few_good h args i);
+      repr = repr_holds roots (only args) h order known (only_good h args i);
+      int = int_holds (few args) h order (few_good h args i);
+      bool = bool_holds (few args) h order (few_good h args i);
+      list = list_holds (few args) h order (few_good h args i);
+      tuple = tuple_holds (few args) h order (few_good h args i);
+      dict = dict_holds (few args) h;
+      isinstance = isinstance_holds roots (both args) h order known (both_good h args i);
+      ord = ord_holds (only args) h order (only_good h args i);
+      chr = chr_holds (only args) h order;
+      abs = abs_holds (only args) h;
+      min = best_row_holds Least args h order i;
+      max = best_row_holds Greatest args h order i;
+      sum = sum_holds (only args) h order (only_good h args i);
+      sorted = sorted_by_holds (only args) h order (only_good h args i);
+      other = raises operand_fault h (lit< tt, lit< tt, tt);
+    }
 
     all_hold : Good (function_row roots b args) h
-    unfolding function_row
-    all_hold =
-        cond_holds (b == builtin_number (codes "len")) (len_row (only args)) from_range h
-        (len_holds (only args) h (only_good h args i))
-        (cond_holds (b == builtin_number (codes "range")) (range_row (bounds_of args)) from_xrange h
-        (range_holds (bounds_of args) h)
-        (cond_holds (b == builtin_number (codes "xrange")) (xrange_row (bounds_of args)) from_str h
-        (xrange_holds (bounds_of args) h)
-        (cond_holds (b == builtin_number (codes "str")) (str_row roots (few args)) from_repr h
-        (str_row_holds roots (few args) h order known (few_good h args i))
-        (cond_holds (b == builtin_number (codes "repr")) (repr_row roots (only args)) from_int h
-        (repr_holds roots (only args) h order known (only_good h args i)) int_on_holds))))
+    all_hold = each_function (λ row. Good row h) roots args b each_holds
 
   pub functions_hold : FunctionsHold rules stands
   functions_hold = record { function = λ h roots b args order known i. all_hold h order roots known b args i }

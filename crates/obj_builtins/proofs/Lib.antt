@@ -5,6 +5,7 @@ mod FormLooks
 mod LengthLooks
 mod KindLooks
 mod Told
+mod EachFunction
 pub mod Holding
 pub mod SteadyRows
 mod RangeAnswers

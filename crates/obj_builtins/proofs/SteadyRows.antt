@@ -1,7 +1,7 @@
 -- In the course of a builtin function no record is longer than before it or at its end.
-use Rattle.std.proofs.Common.{ℕ, zero, suc, ◌==◌, Bool, true, false, not, cond, leb, List, [], ◌∷◌, length, Option, Some, None, Result, Ok, Err, codes, pos, ◌/◌, eqb, refl}
+use Rattle.std.proofs.Common.{ℕ, zero, suc, Bool, true, false, not, leb, List, [], ◌∷◌, length, Option, Some, None, Result, Ok, Err, codes, pos, ◌/◌, eqb, refl}
 use Rattle.std.specs.Ordering.{int_eq}
-use Rattle.py_base.specs.Numbers.{builtin_number, class_number}
+use Rattle.py_base.specs.Numbers.{class_number}
 use Rattle.py_base.specs.declared.kind.Kind.{Kind}
 use Rattle.py_base.specs.declared.kind.Kind.TheVariants.{Str, Tuple, List as ListKind, Dict, Range}
 use Rattle.py_data.specs.declared.value.Addr.{Addr}
@@ -10,7 +10,7 @@ use Rattle.py_data.specs.declared.value.Value.TheVariants.{Unset, None as NoneVa
 use Rattle.py_data.specs.declared.record.Got.{Got}
 use Rattle.py_data.specs.declared.record.Got.TheVariants.{Is, Raise}
 use Rattle.py_data.specs.declared.record.TheConstants.{LENGTH_LIMIT}
-use Rattle.py_data.specs.Fault.{memory_fault, operand_fault}
+use Rattle.py_data.specs.Fault.{memory_fault}
 use Rattle.py_data.specs.Heap.{new_rec, value_at}
 use Rattle.py_data.specs.Looking.{got_row, walk_row, walk_on, kind_row, size_row, look_row, bytes_row}
 use Rattle.py_data.specs.Row.{Row, Ret, bind}
@@ -24,6 +24,7 @@ use Rattle.obj_str.proofs.StrHolds.{new_text_calm}
 use Rattle.obj_nest.specs.Ordering.{order_row}
 use Rattle.obj_nest.specs.Truth.{truth_row}
 use Rattle.obj_nest.proofs.CalmRows.{order_calm, truth_calm}
+use Rattle.obj_ops.specs.Format.{number_in}
 use Rattle.obj_ops.specs.Numbers.{overflow_fault}
 use Rattle.obj_ops.specs.Sequences.{made_row, new_items}
 use Rattle.obj_class.specs.Bases.{MOST_BASES, ref, base_step, sub_step}
@@ -43,16 +44,17 @@ use Rattle.obj_builtins.specs.Arguments.{few, form_of, form_at, form_row}
 use Rattle.obj_builtins.specs.Lengths.{is_counted, range_count, counted, step_count, stop_count, numbers_length, byte_count, bytes_length, items_length, pairs_length, length_by, length_at, length_row, len_row}
 use Rattle.obj_builtins.specs.Ranges.{step_fault, bounds_of, count_in, numbers_made, numbers_within, range_row, range_values, range_made, range_within, xrange_row}
 use Rattle.obj_builtins.specs.Literals.{text_number}
-use Rattle.obj_builtins.specs.Numbers.{read_row, int_of, int_alone, int_row, bool_alone, bool_row, number_in, abs_row, byte_of, letter_row, letter_of, chr_row}
+use Rattle.obj_builtins.specs.Numbers.{read_row, int_of, int_alone, int_row, bool_alone, bool_row, abs_row, byte_of, letter_row, letter_of, chr_row}
 use Rattle.obj_builtins.specs.Texts.{written_row, str_of, str_alone, str_row, repr_row, byte_value, byte_row, ord_of, ord_alone, ord_row}
 use Rattle.obj_builtins.specs.Gathering.{items_made, gathered_row, list_row, tuple_of, tuple_alone, tuple_row, dict_row, sorted_items, sorted_alone, sorted_by}
 use Rattle.obj_builtins.specs.Kinds.{class_of, with_class, item_form, class_turn, classes_in, classes_at, classes_row, is_ref, below_row, object_below, form_below, own_test, own_row, class_row, class_at, any_row, form_told, value_told, told_of, told_by, isinstance_row}
 use Rattle.obj_builtins.specs.Best.{better, better_row, best_from, best_of, best_in, best_by, best_row}
 use Rattle.obj_builtins.specs.Sums.{sum_value, sum_items, sum_alone, sum_row}
-use Rattle.obj_builtins.specs.Functions.{later_row, function_row}
+use Rattle.obj_builtins.specs.Functions.{function_row}
 use Rattle.obj_builtins.specs.HoldsLaws.{FunctionsSteady}
 use Rattle.obj_methods.proofs.SteadyMethods.{sorted_calm}
 use Rattle.obj_builtins.proofs.Told.{told_calm}
+use Rattle.obj_builtins.proofs.EachFunction.{Each, each_function}
 
 module _ (S : Type 0) where
   -- ---- forms
@@ -365,92 +367,32 @@ module _ (S : Type 0) where
   sum_steady None = ret_calm S _ false
 
   -- ---- all
-  either : (b : Bool) (p q : Row S (Got Value)) → Steady false p → Steady false q → Steady false (cond b p q)
-  either true p q s t = s
-  either false p q s t = t
-
   module _ (roots b : ℕ) (args : List Value) where
-    -- from the last one on
-    abbrev from_sorted : Row S (Got Value)
-    from_sorted = cond (b == builtin_number (codes "sorted")) (sorted_by (only args)) (Ret (Raise operand_fault))
-
-    abbrev from_sum : Row S (Got Value)
-    from_sum = cond (b == builtin_number (codes "sum")) (sum_row (only args)) from_sorted
-
-    abbrev from_max : Row S (Got Value)
-    from_max = cond (b == builtin_number (codes "max")) (best_row Greatest args) from_sum
-
-    abbrev from_min : Row S (Got Value)
-    from_min = cond (b == builtin_number (codes "min")) (best_row Least args) from_max
-
-    abbrev from_abs : Row S (Got Value)
-    from_abs = cond (b == builtin_number (codes "abs")) (abs_row (only args)) from_min
-
-    abbrev from_chr : Row S (Got Value)
-    from_chr = cond (b == builtin_number (codes "chr")) (chr_row (only args)) from_abs
-
-    abbrev from_ord : Row S (Got Value)
-    from_ord = cond (b == builtin_number (codes "ord")) (ord_row (only args)) from_chr
-
-    abbrev from_isinstance : Row S (Got Value)
-    from_isinstance = cond (b == builtin_number (codes "isinstance")) (isinstance_row roots (both args)) from_ord
-
-    later_steady : Steady false (later_row {S = S} roots b args)
-    unfolding later_row
-    later_steady =
-        either (b == builtin_number (codes "dict")) (dict_row (few args)) from_isinstance (dict_calm (few args) false)
-        (either (b == builtin_number (codes "isinstance")) (isinstance_row roots (both args)) from_ord
-        (isinstance_calm roots (both args) false)
-        (either (b == builtin_number (codes "ord")) (ord_row (only args)) from_chr (ord_calm (only args) false)
-        (either (b == builtin_number (codes "chr")) (chr_row (only args)) from_abs (chr_calm (only args) false)
-        (either (b == builtin_number (codes "abs")) (abs_row (only args)) from_min (abs_calm (only args) false)
-        (either (b == builtin_number (codes "min")) (best_row Least args) from_max (best_steady Least args)
-        (either (b == builtin_number (codes "max")) (best_row Greatest args) from_sum (best_steady Greatest args)
-        (either (b == builtin_number (codes "sum")) (sum_row (only args)) from_sorted (sum_steady (only args))
-        (either (b == builtin_number (codes "sorted")) (sorted_by (only args)) (Ret (Raise operand_fault))
-        (sorted_steady (only args)) (ret_calm S _ false)))))))))
-
-    abbrev from_tuple : Row S (Got Value)
-    from_tuple = cond (b == builtin_number (codes "tuple")) (tuple_row (few args)) (later_row roots b args)
-
-    abbrev from_list : Row S (Got Value)
-    from_list = cond (b == builtin_number (codes "list")) (list_row (few args)) from_tuple
-
-    abbrev from_bool : Row S (Got Value)
-    from_bool = cond (b == builtin_number (codes "bool")) (bool_row (few args)) from_list
-
-    abbrev from_int : Row S (Got Value)
-    from_int = cond (b == builtin_number (codes "int")) (int_row (few args)) from_bool
-
-    abbrev from_repr : Row S (Got Value)
-    from_repr = cond (b == builtin_number (codes "repr")) (repr_row roots (only args)) from_int
-
-    abbrev from_str : Row S (Got Value)
-    from_str = cond (b == builtin_number (codes "str")) (str_row roots (few args)) from_repr
-
-    abbrev from_xrange : Row S (Got Value)
-    from_xrange = cond (b == builtin_number (codes "xrange")) (xrange_row (bounds_of args)) from_str
-
-    abbrev from_range : Row S (Got Value)
-    from_range = cond (b == builtin_number (codes "range")) (range_row (bounds_of args)) from_xrange
+    each_steady : Each (Steady {S = S} false) roots args
+    each_steady = record {
+      len = len_calm (only args) false;
+      range = range_calm (bounds_of args) false;
+      xrange = xrange_calm (bounds_of args) false;
+      str = str_calm roots (few args) false;
+      repr = repr_calm roots (only args) false;
+      int = int_calm (few args) false;
+      bool = bool_calm (few args) false;
+      list = list_steady (few args);
+      tuple = tuple_steady (few args);
+      dict = dict_calm (few args) false;
+      isinstance = isinstance_calm roots (both args) false;
+      ord = ord_calm (only args) false;
+      chr = chr_calm (only args) false;
+      abs = abs_calm (only args) false;
+      min = best_steady Least args;
+      max = best_steady Greatest args;
+      sum = sum_steady (only args);
+      sorted = sorted_steady (only args);
+      other = ret_calm S _ false;
+    }
 
     all_steady : Steady false (function_row {S = S} roots b args)
-    unfolding function_row
-    all_steady =
-        either (b == builtin_number (codes "len")) (len_row (only args)) from_range (len_calm (only args) false)
-        (either (b == builtin_number (codes "range")) (range_row (bounds_of args)) from_xrange
-        (range_calm (bounds_of args) false)
-        (either (b == builtin_number (codes "xrange")) (xrange_row (bounds_of args)) from_str
-        (xrange_calm (bounds_of args) false)
-        (either (b == builtin_number (codes "str")) (str_row roots (few args)) from_repr
-        (str_calm roots (few args) false)
-        (either (b == builtin_number (codes "repr")) (repr_row roots (only args)) from_int
-        (repr_calm roots (only args) false)
-        (either (b == builtin_number (codes "int")) (int_row (few args)) from_bool (int_calm (few args) false)
-        (either (b == builtin_number (codes "bool")) (bool_row (few args)) from_list (bool_calm (few args) false)
-        (either (b == builtin_number (codes "list")) (list_row (few args)) from_tuple (list_steady (few args))
-        (either (b == builtin_number (codes "tuple")) (tuple_row (few args)) (later_row roots b args)
-        (tuple_steady (few args)) later_steady))))))))
+    all_steady = each_function (Steady {S = S} false) roots args b each_steady
 
   pub functions_steady : FunctionsSteady S
   functions_steady = record { function = all_steady }

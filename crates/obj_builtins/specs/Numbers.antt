@@ -6,12 +6,12 @@ use Rattle.py_data.specs.declared.value.Value.TheVariants.{Bool as BoolValue, In
 use Rattle.py_data.specs.declared.record.Fault.{Fault}
 use Rattle.py_data.specs.declared.record.Got.{Got}
 use Rattle.py_data.specs.declared.record.Got.TheVariants.{Is, Raise}
-use Rattle.py_data.specs.Comparing.{number_of}
 use Rattle.py_data.specs.Fault.{text_fault, argument_fault}
 use Rattle.py_data.specs.Looking.{bytes_row}
 use Rattle.py_data.specs.Row.{Row, Ret, bind}
 use Rattle.py_data.specs.Shape.{bit}
 use Rattle.obj_nest.specs.Truth.{truth_row}
+use Rattle.obj_ops.specs.Format.{number_in}
 use Rattle.obj_ops.specs.Numbers.{narrowed}
 use Rattle.obj_str.specs.Strings.{new_text}
 use Rattle.obj_builtins.specs.declared.arguments.Few.{Few}
@@ -62,10 +62,6 @@ absolute i = narrowed (cond (int_lt i (pos 0)) (neg_ℤ i) i)
 unfoldable pub absolute_in : Option ℤ → Got Value
 absolute_in (Some i) = absolute i
 absolute_in None = Raise argument_fault
-
-abbrev pub number_in : Option Value → Option ℤ
-number_in (Some x) = number_of x
-number_in None = None
 
 unfoldable pub abs_row : {S : Type 0} → Option Value → Row S (Got Value)
 abs_row o = Ret (absolute_in (number_in o))

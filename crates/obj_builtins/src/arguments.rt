@@ -1,17 +1,9 @@
 //! What arguments are to a builtin function: how many, and of which forms.
-ghost use Rattle.std.specs.Prelude.{◌≡◌, MatchResult};
+ghost use Rattle.std.specs.Prelude.{◌≡◌};
 ghost use Rattle.obj_builtins.specs.Arguments.{few, form_at, form_of, form_row};
-ghost use Rattle.obj_builtins.specs.Numbers.{number_in};
-ghost use Rattle.obj_str.specs.Methods as methods;
-ghost use Rattle.py_data.specs.Comparing.{number_of};
-ghost use Rattle.py_data.specs.Fault.{argument_fault, memory_fault};
 ghost use Rattle.py_data.specs.Sense.{Meets, Safe, IsLive};
-ghost use Rattle.py_data.specs.declared.record.Got.TheVariants.{Raise};
-ghost use Rattle.py_data.specs.declared.stop.Stop.TheVariants.{OutOfMemory};
 
-use py_data::exception::{MEMORY_ERROR, TYPE_ERROR, raise};
-use py_data::{Addr, Fault, Got, Kind, Stop, Value, View, With, kind};
-use std::alloc::Global;
+use py_data::{Addr, Kind, Stop, Value, View, kind};
 
 /// How many arguments there are.
 #[derive(Clone, Copy, Debug, Drop, PartialEq, Eq)]
@@ -44,23 +36,6 @@ pub enum Form {
     Other,
 }
 
-/// The answer where the arguments are too many or too few, or one is of another type: TypeError, `wrong arguments`.
-pub fn wrong_arguments<T>(alloc: Global) -> Result<Got<T>, Stop>
-    ensures { MatchResult result (λ g. g ≡ Raise argument_fault) (λ e. e ≡ OutOfMemory) }
-{
-    raise(alloc, TYPE_ERROR, b"wrong arguments")
-}
-
-/// The answer of an operation that would make a record longer than one may be: MemoryError, without a text.
-pub fn too_long<T>() -> Got<T>
-    ensures { result ≡ Raise memory_fault }
-{
-    Got::Raise(Fault {
-        exc: MEMORY_ERROR,
-        with: With::Nothing,
-    })
-}
-
 /// No argument, one alone, or more.
 pub fn few_of(args: &[Value]) -> Few
     ensures { result ≡ few args.now }
@@ -69,47 +44,6 @@ pub fn few_of(args: &[Value]) -> Few
         [] => Few::Nothing,
         [x] => Few::One(*x),
         _ => Few::Many,
-    }
-}
-
-/// The argument, where there is one alone.
-pub fn only(args: &[Value]) -> Option<Value>
-    ensures { result ≡ methods.only args.now }
-{
-    match args {
-        [x] => Some(*x),
-        _ => None,
-    }
-}
-
-/// The arguments, where there are two.
-pub fn both(args: &[Value]) -> Option<(Value, Value)>
-    ensures { result ≡ methods.both args.now }
-{
-    match args {
-        [x, y] => Some((*x, *y)),
-        _ => None,
-    }
-}
-
-/// The number that a value is, truth values among them.
-pub fn number_of(x: Value) -> Option<i64>
-    ensures { result ≡ number_of x }
-{
-    match x {
-        Value::Int(i) => Some(i),
-        Value::Bool(b) => Some(b as i64),
-        _ => None,
-    }
-}
-
-/// The number that an argument is.
-pub fn number_in(x: Option<Value>) -> Option<i64>
-    ensures { result ≡ number_in x }
-{
-    match x {
-        Some(x) => number_of(x),
-        None => None,
     }
 }
 

@@ -3,9 +3,10 @@ ghost use Rattle.std.specs.Prelude.{◌≡◌};
 ghost use Rattle.obj_builtins.specs.Best as choosing;
 ghost use Rattle.py_data.specs.Sense.{Meets, Safe, IsLive};
 
-use crate::arguments::{Few, few_of, wrong_arguments};
+use crate::arguments::{Few, few_of};
 use obj_nest::order;
 use obj_seq::gather;
+use obj_str::wrong_arguments;
 use py_base::split;
 use py_data::exception::{VALUE_ERROR, raise};
 use py_data::{Got, Stop, Value, View};

@@ -2,7 +2,7 @@
 ghost use Rattle.obj_builtins.specs.Functions as functions;
 ghost use Rattle.py_data.specs.Sense.{Meets, Safe, IsLive};
 
-use crate::arguments::{both, few_of, only};
+use crate::arguments::few_of;
 use crate::best::{Side, best_value};
 use crate::gathering::{dict, list, sorted_list, tuple};
 use crate::kinds::isinstance;
@@ -11,6 +11,7 @@ use crate::numbers::{abs, chr, int, truth_value};
 use crate::ranges::{bounds_of, range, xrange};
 use crate::sums::sum;
 use crate::texts::{ord, repr, text_value};
+use obj_str::{both, only};
 use py_base::builtin::{
     ABS, BOOL, CHR, DICT, INT, ISINSTANCE, LEN, LIST, MAX, MIN, ORD, RANGE, REPR, SORTED, STR, SUM,
     TUPLE, XRANGE,

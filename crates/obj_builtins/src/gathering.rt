@@ -1,33 +1,14 @@
 //! `list`, `tuple`, `dict` and `sorted`.
 ghost use Rattle.obj_builtins.specs.Gathering as gathering;
-ghost use Rattle.obj_ops.specs.Sequences.{made_row};
 ghost use Rattle.py_data.specs.Sense.{Meets, Safe, IsLive};
 
-use crate::arguments::{Few, Form, form_of_value, too_long, wrong_arguments};
+use crate::arguments::{Few, Form, form_of_value};
 use obj_methods::sorted;
+use obj_ops::make_items;
 use obj_seq::gather;
-use py_data::{Bytes, Got, Kind, LENGTH_LIMIT, Record, Stop, Value, Values, View};
+use obj_str::{too_long, wrong_arguments};
+use py_data::{Got, Kind, LENGTH_LIMIT, Stop, Value, Values, View};
 use std::alloc::Global;
-
-/// Makes a record of these values.
-#[tactic(auto, using(py_data::proofs::Rows::row_steps), unfolding(obj_ops::specs::Sequences::made_row))]
-pub fn make_items<S, V: View<S>>(
-    alloc: Global,
-    v: &mut V,
-    kind: Kind,
-    values: Values,
-) -> Result<Got<Value>, Stop>
-    requires live { IsLive V.sense v.old }
-    requires safe { Safe V.sense.partial (made_row {S = S} kind values) (V.sense.heap v.old) }
-    ensures { Meets V.sense (made_row kind values) v.old v.new result }
-{
-    let made = Record {
-        kind,
-        values,
-        bytes: Bytes::new(alloc),
-    };
-    Ok(Got::Is(Value::Ref(v.make(&made)?)))
-}
 
 /// The same, where they are no more than `LENGTH_LIMIT`. MemoryError where they are more.
 #[tactic(auto, using(py_data::proofs::Rows::row_steps), unfolding(crate::specs::Gathering::items_made, obj_ops::specs::Sequences::new_items))]

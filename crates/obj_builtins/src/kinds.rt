@@ -4,8 +4,9 @@ ghost use Rattle.obj_builtins.specs.Kinds as kinds;
 ghost use Rattle.py_data.specs.Sense.{Meets, Safe, IsLive};
 ghost use Rattle.py_data.specs.declared.stop.Stop.TheVariants.{OutOfMemory};
 
-use crate::arguments::{Form, form_of_value, wrong_arguments};
+use crate::arguments::{Form, form_of_value};
 use obj_class::is_sub;
+use obj_str::wrong_arguments;
 use py_base::builtin::{BOOL, DICT, INT, LIST, STR, TUPLE};
 use py_data::{Addr, Got, Items, Stop, Value, View, look, size};
 use std::alloc::Global;

@@ -5,8 +5,8 @@ ghost use Rattle.py_data.specs.Sense.{Meets, Safe, IsLive};
 ghost use Rattle.py_data.specs.declared.record.TheConstants.{LENGTH_LIMIT};
 ghost use Rattle.py_data.specs.declared.stop.Stop.TheVariants.{OutOfMemory};
 
-use crate::arguments::wrong_arguments;
 use obj_seq::range_length;
+use obj_str::wrong_arguments;
 use py_data::{Addr, Got, Kind, Stop, Value, View, kind, look, size};
 use std::alloc::Global;
 

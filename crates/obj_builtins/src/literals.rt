@@ -2,11 +2,11 @@
 ghost use Rattle.std.specs.Prelude.{◌≡◌, ◌<◌, ◌≤◌, ◌++◌, codes, MatchOption, MatchResult, IfOk};
 ghost use Rattle.obj_builtins.specs.Literals as literals;
 ghost use Rattle.obj_ops.specs.Numbers.{narrowed, overflow_fault};
-ghost use Rattle.obj_str.specs.Pieces as pieces;
 ghost use Rattle.py_text.specs.Repr.{repr_of};
 ghost use Rattle.py_data.specs.declared.record.Got.TheVariants.{Raise};
 ghost use Rattle.py_data.specs.declared.stop.Stop.TheVariants.{OutOfMemory};
 
+use obj_str::strip;
 use py_base::split;
 use py_data::exception::{OVERFLOW_ERROR, VALUE_ERROR, raise};
 use py_data::{Bytes, Got, NoMemory, Stop, Value};
@@ -26,48 +26,6 @@ pub fn narrow(alloc: Global, n: i128) -> Result<Got<Value>, Stop>
     } else {
         Ok(Got::Is(Value::Int(n as i64)))
     }
-}
-
-/// A space, or one of tab, newline, vertical tab, form feed and carriage return.
-fn is_blank(byte: u8) -> bool
-    ensures { result ≡ pieces.is_blank byte }
-{
-    byte == b' ' || (9 <= byte && byte <= 13)
-}
-
-/// The text without the blanks at its front.
-fn without_front(bytes: &[u8]) -> &[u8]
-    ensures { result.now ≡ pieces.without_front bytes.now }
-{
-    let mut rest = bytes;
-    'turns: while let Some((byte, more)) = split(rest) {
-        if !is_blank(*byte) {
-            return rest;
-        }
-        rest = more;
-    }
-    rest
-}
-
-/// The text without the blanks at its end.
-fn without_end(bytes: &[u8]) -> &[u8]
-    ensures { result.now ≡ pieces.without_end bytes.now }
-{
-    let mut rest = bytes;
-    'turns: while let Some((byte, front)) = rest.split_last() {
-        if !is_blank(*byte) {
-            return rest;
-        }
-        rest = front;
-    }
-    rest
-}
-
-/// The text without the blanks at its two ends.
-fn strip(bytes: &[u8]) -> &[u8]
-    ensures { result.now ≡ pieces.strip bytes.now }
-{
-    without_end(without_front(bytes))
 }
 
 /// A byte from `0` to `9`.

@@ -4,10 +4,11 @@ ghost use Rattle.obj_builtins.specs.Numbers as numbers;
 ghost use Rattle.py_data.specs.Sense.{Meets, Safe, IsLive};
 ghost use Rattle.py_data.specs.declared.stop.Stop.TheVariants.{OutOfMemory};
 
-use crate::arguments::{Few, Form, form_of_value, number_in, wrong_arguments};
+use crate::arguments::{Few, Form, form_of_value};
 use crate::literals::{narrow, text_number};
 use obj_nest::truth;
-use obj_str::{bytes_of, make_str};
+use obj_ops::number_in;
+use obj_str::{bytes_of, make_str, wrong_arguments};
 use py_data::exception::{VALUE_ERROR, raise};
 use py_data::{Addr, Got, Stop, Value, View};
 use std::alloc::Global;

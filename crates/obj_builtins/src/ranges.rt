@@ -4,10 +4,11 @@ ghost use Rattle.obj_builtins.specs.Ranges as ranges;
 ghost use Rattle.obj_seq.specs.Gather as gather;
 ghost use Rattle.py_data.specs.Sense.{Meets, Safe, IsLive};
 
-use crate::arguments::{number_of, too_long, wrong_arguments};
-use crate::gathering::make_items;
 use crate::lengths::is_counted;
+use obj_nest::number_of;
+use obj_ops::make_items;
 use obj_seq::{range_item, range_length};
+use obj_str::{too_long, wrong_arguments};
 use py_data::exception::{OVERFLOW_ERROR, VALUE_ERROR, raise};
 use py_data::{Got, Kind, LENGTH_LIMIT, NoMemory, Stop, Value, Values, View};
 use std::alloc::Global;

@@ -4,8 +4,9 @@ ghost use Rattle.obj_builtins.specs.Sums as sums;
 ghost use Rattle.py_data.specs.Sense.{Meets, Safe, IsLive};
 ghost use Rattle.py_data.specs.declared.stop.Stop.TheVariants.{OutOfMemory};
 
-use crate::arguments::{number_of, wrong_arguments};
+use obj_nest::number_of;
 use obj_seq::gather;
+use obj_str::wrong_arguments;
 use py_base::split;
 use py_data::exception::{OVERFLOW_ERROR, TYPE_ERROR, raise};
 use py_data::{Got, Stop, Value, View};

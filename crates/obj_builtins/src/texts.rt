@@ -4,9 +4,9 @@ ghost use Rattle.obj_builtins.specs.Texts as texts;
 ghost use Rattle.py_data.specs.Sense.{Meets, Safe, IsLive};
 ghost use Rattle.py_data.specs.declared.stop.Stop.TheVariants.{OutOfMemory};
 
-use crate::arguments::{Few, Form, form_of_value, wrong_arguments};
+use crate::arguments::{Few, Form, form_of_value};
 use obj_class::text;
-use obj_str::{bytes_of, make_str};
+use obj_str::{bytes_of, make_str, wrong_arguments};
 use py_data::{Addr, Got, Stop, Value, View};
 use std::alloc::Global;
 

@@ -15,13 +15,14 @@ use Rattle.py_data.specs.declared.value.Value.{Value}
 use Rattle.py_data.specs.declared.value.Value.TheVariants.{Unset, None as NoneValue, Bool as BoolValue, Int, Ref, Builtin}
 use Rattle.py_data.specs.declared.record.Got.{Got}
 use Rattle.py_data.specs.declared.record.Got.TheVariants.{Is, Raise}
-use Rattle.py_data.specs.Comparing.{number_of, order, order_by, order_bytes, order_numbers, order_records, order_within}
+use Rattle.py_data.specs.Comparing.{number_of, order, order_by, order_bytes, order_records, order_within}
 use Rattle.py_data.specs.Every.{Every}
 use Rattle.py_data.specs.Heap.{Heap, Rec, at, value_at}
 use Rattle.py_data.specs.Shape.{KindIn}
 use Rattle.py_data.proofs.EveryLemmas.{every_weaken}
 use Rattle.py_data.proofs.Steps.{at-is}
 use Rattle.obj_nest.specs.Laws.{IsNumber, IsString}
+use Rattle.obj_nest.proofs.NumberOrder.{number_order}
 use Rattle.obj_methods.specs.Laws.{IsSorted, is_tie, tying}
 use Rattle.obj_methods.specs.Sorting.{in_order, number_in, number_less}
 use Rattle.obj_methods.proofs.InOrder.{every_at, in_order_all, in_order_rising, in_order_same, in_order_stable, rising_at}
@@ -81,26 +82,6 @@ module _ (h : Heap) {K : Type 0} (R : K → K → Ordering) (total : IsTotalOrde
       }
 
 -- ---- numbers
-by_numbers : (h : Heap) (items : List Value → List Value → Got Ordering) (x y : Value) (i : ℤ) → number_of x ≡ Some i →
-    order_by h items x y ≡ order_numbers (number_of x) (number_of y)
-by_numbers h items (Int n) y i e = refl
-by_numbers h items (BoolValue b) y i e = refl
-by_numbers h items Unset y i e = absurd (let q : ◌≡◌ {A = Option ℤ} None (Some i) = e in cc)
-by_numbers h items NoneValue y i e = absurd (let q : ◌≡◌ {A = Option ℤ} None (Some i) = e in cc)
-by_numbers h items (Ref a) y i e = absurd (let q : ◌≡◌ {A = Option ℤ} None (Some i) = e in cc)
-by_numbers h items (Builtin b) y i e = absurd (let q : ◌≡◌ {A = Option ℤ} None (Some i) = e in cc)
-
-two_numbers : (h : Heap) (items : List Value → List Value → Got Ordering) (x y : Value) (i j : ℤ) →
-    number_of x ≡ Some i → number_of y ≡ Some j → order_by h items x y ≡ Is (int_cmp i j)
-two_numbers h items x y i j ex ey = by_numbers h items x y i ex ∙
-    (ap (λ o. order_numbers o (number_of y)) ex ∙ ap (order_numbers (Some i)) ey)
-
-numbers_within : (h : Heap) (d : ℕ) (x y : Value) (i j : ℤ) → number_of x ≡ Some i → number_of y ≡ Some j →
-    order_within h d x y ≡ Is (int_cmp i j)
-unfolding order_within
-numbers_within h zero x y i j ex ey = two_numbers h _ x y i j ex ey
-numbers_within h (suc d) x y i j ex ey = two_numbers h _ x y i j ex ey
-
 as_number : (o : Option ℤ) (i d : ℤ) → o ≡ Some i → i ≡ unwrap_or o d
 as_number None i d e = absurd (let q : ◌≡◌ {A = Option ℤ} None (Some i) = e in cc)
 as_number (Some j) i d e = let q : i ≡ j = cc in q
@@ -108,7 +89,7 @@ as_number (Some j) i d e = let q : i ≡ j = cc in q
 numbers_ordered : (h : Heap) (x y : Value) → IsNumber h x → IsNumber h y →
     order h x y ≡ Is (int_cmp (number_in x) (number_in y))
 numbers_ordered h x y i j =
-    numbers_within h 100 x y i.0 j.0 i.1 j.1 ∙
+    number_order h x y i.0 j.0 i.1 j.1 ∙
     (ap (λ n. Is (int_cmp n j.0)) (as_number (number_of x) i.0 _ i.1) ∙
     ap (λ n. Is (int_cmp (number_in x) n)) (as_number (number_of y) j.0 _ j.1))
 

@@ -1,51 +1,10 @@
 //! Arguments of methods, and answers that they share.
-ghost use Rattle.std.specs.Prelude.{◌≡◌, MatchResult};
-ghost use Rattle.py_data.specs.declared.record.Got.TheVariants.{Raise};
-ghost use Rattle.py_data.specs.declared.stop.Stop.TheVariants.{OutOfMemory};
-ghost use Rattle.py_data.specs.Comparing.{number_of};
-ghost use Rattle.py_data.specs.Fault.{argument_fault, operand_fault};
-ghost use Rattle.obj_str.specs.Methods as methods;
+ghost use Rattle.std.specs.Prelude.{◌≡◌};
 ghost use Rattle.obj_methods.specs.Arguments.{key_and_value, number_and_value, only_number};
 ghost use Rattle.obj_methods.specs.Lists.{done};
 
-use py_data::exception::{TYPE_ERROR, raise};
-use py_data::{Got, Stop, Value};
-use std::alloc::Global;
-
-/// The answer where the arguments are too many or too few, or one is of another type: TypeError, `wrong arguments`.
-pub fn wrong_arguments<T>(alloc: Global) -> Result<Got<T>, Stop>
-    ensures { MatchResult result (λ g. g ≡ Raise argument_fault) (λ e. e ≡ OutOfMemory) }
-{
-    raise(alloc, TYPE_ERROR, b"wrong arguments")
-}
-
-/// The answer where an operation isn't for such a value: TypeError, `unsupported operand`.
-pub fn wrong_operand<T>(alloc: Global) -> Result<Got<T>, Stop>
-    ensures { MatchResult result (λ g. g ≡ Raise operand_fault) (λ e. e ≡ OutOfMemory) }
-{
-    raise(alloc, TYPE_ERROR, b"unsupported operand")
-}
-
-/// The number that a value is, if it is one.
-pub fn number_of(x: Value) -> Option<i64>
-    ensures { result ≡ number_of x }
-{
-    match x {
-        Value::Int(i) => Some(i),
-        Value::Bool(b) => Some(b as i64),
-        _ => None,
-    }
-}
-
-/// The argument, where there is one alone.
-pub fn only(args: &[Value]) -> Option<Value>
-    ensures { result ≡ methods.only args.now }
-{
-    match args {
-        [x] => Some(*x),
-        _ => None,
-    }
-}
+use obj_nest::number_of;
+use py_data::{Got, Value};
 
 /// The number that the one argument is.
 pub fn only_number(args: &[Value]) -> Option<i64>

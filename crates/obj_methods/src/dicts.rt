@@ -3,8 +3,9 @@ ghost use Rattle.std.specs.Prelude.{◌≡◌};
 ghost use Rattle.obj_methods.specs.Dicts.{dict_method_row, found_or, get_with, has_with, if_given, is_there, list_by, or_given, or_value, pop_with};
 ghost use Rattle.py_data.specs.Sense.{Meets, Safe, IsLive};
 
-use crate::arguments::{key_and_value, only, wrong_arguments, wrong_operand};
+use crate::arguments::key_and_value;
 use obj_dict::{Part, del, list_of};
+use obj_str::{only, wrong_arguments, wrong_operand};
 use py_base::builtin::{DICT_GET, DICT_HAS_KEY, DICT_ITEMS, DICT_KEYS, DICT_POP, DICT_VALUES};
 use py_data::exception::KEY_ERROR;
 use py_data::{Addr, Fault, Got, Stop, Value, View};

@@ -4,16 +4,16 @@ ghost use Rattle.obj_seq.specs.Seq.{put_row};
 ghost use Rattle.obj_methods.specs.Lists.{append_row, append_to, append_with, extend_with, insert_with, list_method_row, pop_by, pop_with, put_all, reverse_by, sort_by, sort_items, sort_row};
 ghost use Rattle.py_data.specs.Sense.{Meets, Safe, IsLive};
 
-use crate::arguments::{done, number_and_value, only, only_number, wrong_arguments, wrong_operand};
+use crate::arguments::{done, number_and_value, only_number};
 use crate::searching::{index, remove};
 use crate::sorting::sorted;
 use obj_ops::{extend, values_of};
+use obj_str::{only, too_long, wrong_arguments, wrong_operand};
 use py_base::builtin::{
     LIST_APPEND, LIST_EXTEND, LIST_INDEX, LIST_INSERT, LIST_POP, LIST_REMOVE, LIST_REVERSE,
     LIST_SORT,
 };
-use py_data::exception::MEMORY_ERROR;
-use py_data::{Addr, Fault, Got, LENGTH_LIMIT, Stop, Value, Values, View, With, size};
+use py_data::{Addr, Got, LENGTH_LIMIT, Stop, Value, Values, View, size};
 use std::alloc::Global;
 
 /// Puts a value at the end of a list of `n` items. MemoryError where it has as many as a list may have.
@@ -27,10 +27,7 @@ fn append_to<S, V: View<S>>(v: &mut V, a: Addr, x: Value, n: usize) -> Result<Go
         v.push_val(a, x)?;
         Ok(Got::Is(Value::None))
     } else {
-        Ok(Got::Raise(Fault {
-            exc: MEMORY_ERROR,
-            with: With::Nothing,
-        }))
+        Ok(too_long())
     }
 }
 

@@ -4,9 +4,10 @@ ghost use Rattle.py_data.specs.declared.stop.Stop.TheVariants.{OutOfMemory};
 ghost use Rattle.py_data.specs.Sense.{Meets, Safe, IsLive};
 ghost use Rattle.obj_methods.specs.Lists.{first_of, found, goes_on, index_with, item_row, place_if, place_row, remove_at, remove_row, remove_with, search_row};
 
-use crate::arguments::{done, wrong_arguments};
+use crate::arguments::done;
 use obj_ops::equal;
 use obj_seq::del_item;
+use obj_str::wrong_arguments;
 use py_data::exception::{VALUE_ERROR, raise};
 use py_data::{Addr, Got, LENGTH_LIMIT, Stop, Value, View, look, size};
 use std::alloc::Global;

@@ -5,9 +5,9 @@ ghost use Rattle.obj_methods.specs.Sorting.{are_numbers, in_order, is_number, nu
 ghost use Rattle.py_data.specs.Heap.{value_at};
 ghost use Rattle.py_data.specs.Sense.{Meets, Safe, IsLive};
 
-use crate::arguments::{number_of, wrong_operand};
 use crate::words::Words;
-use obj_str::bytes_of;
+use obj_nest::number_of;
+use obj_str::{bytes_of, wrong_operand};
 use py_base::split;
 use py_data::{Addr, Bytes, Got, Kind, NoMemory, Stop, Value, Values, View, kind};
 use std::alloc::Global;

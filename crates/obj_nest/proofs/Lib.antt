@@ -8,6 +8,7 @@ mod OrderLooks
 mod TruthLooks
 pub mod TextLooks
 pub mod NestLooks
+pub mod NumberOrder
 mod OrderTotal
 mod KeyLemmas
 mod PairSearch

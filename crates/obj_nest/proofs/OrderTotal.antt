@@ -16,9 +16,10 @@ use Rattle.py_data.specs.declared.record.Got.{Got}
 use Rattle.py_data.specs.declared.record.Got.TheVariants.{Is}
 use Rattle.py_data.specs.Heap.{Rec, Heap, at}
 use Rattle.py_data.specs.Shape.{bit, same_key, same_text, same_bytes, text_by, text_in, KindIn}
-use Rattle.py_data.specs.Comparing.{Under, equal, equal_by, equal_kinds, equal_within, order, order_by, order_bytes, order_numbers, order_records, order_within, number_of}
+use Rattle.py_data.specs.Comparing.{Under, equal, equal_by, equal_kinds, equal_within, order, order_by, order_bytes, order_records, order_within, number_of}
 use Rattle.py_data.proofs.Steps.{at-is}
 use Rattle.obj_nest.specs.Laws.{IsNumber, IsString, TotalLaw}
+use Rattle.obj_nest.proofs.NumberOrder.{number_order}
 
 is_same : {A : Type 0} (a b : A) → Is a ≡ Is b → a ≡ b
 is_same a b e = cc
@@ -50,26 +51,6 @@ module _ {K : Type 0} (R : K → K → Ordering) (total : IsTotalOrder R) (stand
   }
 
 -- ---- numbers
-by_numbers : (h : Heap) (items : List Value → List Value → Got Ordering) (x y : Value) (i : ℤ) → number_of x ≡ Some i →
-    order_by h items x y ≡ order_numbers (number_of x) (number_of y)
-by_numbers h items (Int n) y i e = refl
-by_numbers h items (BoolValue b) y i e = refl
-by_numbers h items Unset y i e = absurd (let q : ◌≡◌ {A = Option ℤ} None (Some i) = e in cc)
-by_numbers h items NoneValue y i e = absurd (let q : ◌≡◌ {A = Option ℤ} None (Some i) = e in cc)
-by_numbers h items (Ref a) y i e = absurd (let q : ◌≡◌ {A = Option ℤ} None (Some i) = e in cc)
-by_numbers h items (Builtin b) y i e = absurd (let q : ◌≡◌ {A = Option ℤ} None (Some i) = e in cc)
-
-two_numbers : (h : Heap) (items : List Value → List Value → Got Ordering) (x y : Value) (i j : ℤ) →
-    number_of x ≡ Some i → number_of y ≡ Some j → order_by h items x y ≡ Is (int_cmp i j)
-two_numbers h items x y i j ex ey = by_numbers h items x y i ex ∙
-    (ap (λ o. order_numbers o (number_of y)) ex ∙ ap (order_numbers (Some i)) ey)
-
-numbers_ordered : (h : Heap) (d : ℕ) (x y : Value) (i j : ℤ) → number_of x ≡ Some i → number_of y ≡ Some j →
-    order_within h d x y ≡ Is (int_cmp i j)
-unfolding order_within
-numbers_ordered h zero x y i j ex ey = two_numbers h _ x y i j ex ey
-numbers_ordered h (suc d) x y i j ex ey = two_numbers h _ x y i j ex ey
-
 -- the number of a value that is one
 number_at : (n i : ℤ) → ◌≡◌ {A = Option ℤ} (Some n) (Some i) → n ≡ i
 number_at n i e = cc
@@ -112,7 +93,7 @@ numbers_same h (suc d) x y i j ex ey = equal_numbers h (Some (equal_within h d))
 
 pub numbers_total : TotalLaw IsNumber
 numbers_total = total_law int_cmp int_cmp_total (λ h x i. number_of x ≡ Some i)
-    (λ h x y i j ex ey. numbers_ordered h 100 x y i j ex ey) (λ h x y i j ex ey. numbers_same h 100 x y i j ex ey)
+    number_order (λ h x y i j ex ey. numbers_same h 100 x y i j ex ey)
 
 -- ---- strings
 bytes_cmp : (xs ys : List ℕ) → order_bytes xs ys ≡ slice_cmp nat_cmp xs ys

@@ -14,6 +14,6 @@ mod truths;
 pub use equality::equal;
 pub use laws::{calm_law, equal_law, looks_law, order_law};
 pub use levels::{LEVELS, too_deep};
-pub use ordering::order;
+pub use ordering::{number_of, order};
 pub use texts::text;
 pub use truths::truth;

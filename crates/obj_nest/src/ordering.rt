@@ -17,8 +17,8 @@ use py_data::{Addr, Got, Stop, Value, View, look, size};
 use std::alloc::Global;
 use std::cmp::Ordering;
 
-/// The number that a value is, if it is one.
-fn number_of(x: Value) -> Option<i64>
+/// The number that a value is, truth values among them: True is 1 and False is 0.
+pub fn number_of(x: Value) -> Option<i64>
     ensures { result ≡ number_of x }
 {
     match x {

@@ -59,6 +59,7 @@ unfoldable pub number_grown : List ℕ → Option ℤ → Got (List ℕ)
 number_grown text (Some i) = grown text (signed_decimal i)
 number_grown text None = Raise argument_fault
 
+-- the number that an argument is, if it is there and is one
 abbrev pub number_in : Option Value → Option ℤ
 number_in (Some x) = number_of x
 number_in None = None

@@ -4,11 +4,10 @@ ghost use Rattle.py_data.specs.declared.record.Got.TheVariants.{Is};
 ghost use Rattle.py_data.specs.Sense.{Meets, Safe, IsLive};
 ghost use Rattle.obj_ops.specs.Contains.{container_of, container_row, item_row, goes_on, items_row, part_row, text_in_row, is_between, is_among, is_key_there, contained_row, contains_row};
 
-use crate::format::number_of;
 use crate::operand::{Operand, operand_at};
 use crate::sequence::values_of;
 use obj_dict::get;
-use obj_nest::equal;
+use obj_nest::{equal, number_of};
 use obj_str::{bytes_of, find};
 use py_data::exception::{TYPE_ERROR, raise};
 use py_data::{Addr, Got, Kind, Stop, Value, View, look, size};

@@ -8,8 +8,8 @@ ghost use Rattle.obj_ops.specs.InPlace.{push_row, pushed_row, appended_row, exte
 use crate::operand::{Operand, list_of, operand_at};
 use crate::operate::operate_with;
 use crate::operator::{Operator, operator_of};
-use crate::sequence::too_long;
 use obj_seq::gather;
+use obj_str::too_long;
 use py_data::{Addr, Got, LENGTH_LIMIT, Stop, Value, Values, View, size};
 use std::alloc::Global;
 

@@ -1,13 +1,13 @@
 //! The operator `%` with a string on the left.
 ghost use Rattle.std.specs.Prelude.{◌≡◌, ◌+◌, ◌++◌, ◌∷◌, [], IfOk, MatchResult, false, length, slice_get};
 ghost use Rattle.py_data.specs.declared.stop.Stop.TheVariants.{OutOfMemory};
-ghost use Rattle.py_data.specs.Comparing.{number_of};
 ghost use Rattle.py_data.specs.Sense.{Meets, Safe, IsLive};
 ghost use Rattle.obj_ops.specs.Format.{conversion, takes, pieces, asked, grown, number_grown, number_in, text_grown, piece_row, piece_at, pieces_row, finished, formatted_row, arguments_row, template_row, format_row};
 
-use crate::sequence::{too_long, values_of};
+use crate::sequence::values_of;
 use obj_class::text;
-use obj_str::{bytes_of, make_str};
+use obj_nest::number_of;
+use obj_str::{bytes_of, make_str, too_long};
 use py_data::exception::{TYPE_ERROR, VALUE_ERROR, raise};
 use py_data::{Addr, Bytes, Got, Items, LENGTH_LIMIT, NoMemory, Stop, Value, Values, View};
 use py_text::print_int;
@@ -46,17 +46,6 @@ fn takes(p: Piece) -> usize
         Piece::Number(_) => 1,
         Piece::Text(_) => 1,
         _ => 0,
-    }
-}
-
-/// The number that a value is, if it is one.
-pub fn number_of(x: Value) -> Option<i64>
-    ensures { result ≡ number_of x }
-{
-    match x {
-        Value::Int(i) => Some(i),
-        Value::Bool(b) => Some(b as i64),
-        _ => None,
     }
 }
 
@@ -155,7 +144,7 @@ fn argument(args: &Values, n: usize) -> Option<Value>
 }
 
 /// The number that an argument is, if it is there and is one.
-fn number_in(x: Option<Value>) -> Option<i64>
+pub fn number_in(x: Option<Value>) -> Option<i64>
     ensures { result ≡ number_in x }
 {
     match x {

@@ -15,8 +15,9 @@ mod shift;
 
 pub use comparing::compare;
 pub use extending::{extend, in_place};
+pub use format::number_in;
 pub use laws::{division_law, holds_law, join_law, steady_law};
 pub use obj_class::text;
 pub use obj_nest::{equal, order, truth};
 pub use operate::{binary, unary};
-pub use sequence::values_of;
+pub use sequence::{make_items, values_of};

@@ -6,10 +6,11 @@ ghost use Rattle.py_data.specs.Sense.{Meets, Safe, IsLive};
 ghost use Rattle.obj_ops.specs.Binary.{signed_value, unary_row, calculated_case, case_row, operand_with, operated_row, binary_row};
 
 use crate::calculate::{calculate, calculate_truths, with_sign};
-use crate::format::{format_with, number_of};
+use crate::format::format_with;
 use crate::operand::{Case, Operand, case_of, operand_at};
 use crate::operator::{Operator, Sign, operator_of, sign_of};
 use crate::sequence::{join_items, join_texts, repeat_items, repeat_text, times};
+use obj_nest::number_of;
 use py_data::exception::{TYPE_ERROR, raise};
 use py_data::{Addr, Got, Stop, Value, View};
 use std::alloc::Global;

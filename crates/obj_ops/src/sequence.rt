@@ -1,20 +1,16 @@
 //! Sequences and strings that are joined and repeated.
 ghost use Rattle.std.specs.Prelude.{◌≡◌, ◌≤◌, ◌+◌, ◌*◌, ◌++◌, IfOk, length, leb};
 ghost use Rattle.std.specs.List.{repeat};
-ghost use Rattle.py_data.specs.declared.record.Got.TheVariants.{Raise};
 ghost use Rattle.py_data.specs.declared.record.TheConstants.{LENGTH_LIMIT};
 ghost use Rattle.py_data.specs.Heap.{at};
-ghost use Rattle.py_data.specs.Fault.{memory_fault};
 ghost use Rattle.py_data.specs.Row.{Ret};
 ghost use Rattle.py_data.specs.inner.Rest.{Stands};
 ghost use Rattle.py_data.specs.Sense.{Meets, Safe, IsLive};
 ghost use Rattle.obj_ops.specs.Sequences.{values_row, made_row, new_items, joined_with, joined_items, joined_text_with, joined_texts, times, repeated_items, new_repeated, repeated_text};
 
-use obj_str::{bytes_of, make_str};
-use py_data::exception::MEMORY_ERROR;
+use obj_str::{bytes_of, make_str, too_long};
 use py_data::{
-    Addr, Bytes, Fault, Got, Items, Kind, LENGTH_LIMIT, NoMemory, Record, Stop, Value, Values,
-    View, With,
+    Addr, Bytes, Got, Items, Kind, LENGTH_LIMIT, NoMemory, Record, Stop, Value, Values, View,
 };
 use std::alloc::Global;
 
@@ -46,19 +42,9 @@ pub fn values_of<S, V: View<S>>(alloc: Global, v: &mut V, a: Addr) -> Result<Val
     collect(alloc, v, a, n)
 }
 
-/// The answer of an operation that would make a record longer than one may be: MemoryError, without a text.
-pub fn too_long<T>() -> Got<T>
-    ensures { result ≡ Raise memory_fault }
-{
-    Got::Raise(Fault {
-        exc: MEMORY_ERROR,
-        with: With::Nothing,
-    })
-}
-
-/// Makes a record of these values.
+/// Makes a record of that kind, of these values. There may be no more than `LENGTH_LIMIT` of them.
 #[tactic(auto, using(py_data::proofs::Rows::row_steps), unfolding(crate::specs::Sequences::made_row))]
-fn make_items<S, V: View<S>>(
+pub fn make_items<S, V: View<S>>(
     alloc: Global,
     v: &mut V,
     kind: Kind,

@@ -1,8 +1,11 @@
--- The items of a range lie between its start and its stop, so they have 64 bits.
-use Rattle.std.proofs.Common.{◌≡◌, ℕ, zero, suc, ◌*◌, ◌<◌, ◌≤◌, ◌/◌, ℤ, pos, negsuc, neg_ℤ, ◌+ℤ◌, ◌-ℤ◌, ◌≤ℤ◌, FitsSigned, w64, refl, sym, subst, arith}
+-- The items of a range lie between its start and its stop, so they have 64 bits; and the numbers by which code counts
+-- one.
+use Rattle.std.proofs.Common.{◌≡◌, ℕ, zero, suc, ◌*◌, ◌<◌, ◌≤◌, ◌/◌, ◌^◌, ℤ, pos, negsuc, neg_ℤ, ◌+ℤ◌, ◌-ℤ◌, ◌*ℤ◌, ◌≤ℤ◌, FitsSigned, w64, to_z, of_z, refl, sym, subst, arith}
+use mir.Syntax.{w128}
+use Rattle.std.proofs.Math.Facts.{sfits_widen}
 use Rattle.std.proofs.Math.Nat.{div-mul-le_self, mul-le-mul_left}
 use Rattle.std.proofs.Math.IntN.{pos-*ℤ-pos, pos-*ℤ-negsuc}
-use Rattle.std.proofs.lemmas.Int.{ints}
+use Rattle.std.proofs.lemmas.Int.{to_z-of_z, to_z_pos, fits_signed_mul, ints}
 use Rattle.py_data.specs.Range.{steps, range_length, range_item}
 
 -- k steps are no longer than the way
@@ -48,3 +51,30 @@ item-fits start stop (pos s) k f g h = subst (λ z. FitsSigned w64 (start +ℤ z
     (up-fits start stop (k * s) f g (on-way (stop -ℤ start) s k h))
 item-fits start stop (negsuc s) k f g h = subst (λ z. FitsSigned w64 (start +ℤ z)) (sym (pos-*ℤ-negsuc k s))
     (down-fits start stop (k * suc s) f g (on-way (start -ℤ stop) (suc s) k h))
+
+-- what the code's numbers are, of 64 bits and of 128, as it counts an item of a range
+pub record ItemSteps (start step : ℤ) (k : ℕ) : Type 0 where
+  pub short_start : to_z w64 (of_z w64 start) ≡ start
+  pub short_step : to_z w64 (of_z w64 step) ≡ step
+  pub wide_start : to_z w128 (of_z w128 start) ≡ start
+  pub wide_step : to_z w128 (of_z w128 step) ≡ step
+  pub count : to_z w128 k ≡ pos k
+  pub product : to_z w128 (of_z w128 (pos k *ℤ step)) ≡ pos k *ℤ step
+  pub whole : to_z w128 (of_z w128 (range_item start step k)) ≡ range_item start step k
+  pub item : to_z w64 (of_z w64 (range_item start step k)) ≡ range_item start step k
+
+pub item-steps : (start step : ℤ) (k : ℕ) → FitsSigned w64 start → FitsSigned w64 step → k < 2 ^ 64 →
+    FitsSigned w64 (range_item start step k) → ItemSteps start step k
+item-steps start step k f g h item =
+    let product : FitsSigned w128 (pos k *ℤ step) = fits_signed_mul w128 (pos k) step 18446744073709551615
+    9223372036854775808 (omega arith) (omega (arith, ints)) (omega arith) in
+    record {
+      short_start = to_z-of_z w64 start f;
+      short_step = to_z-of_z w64 step g;
+      wide_start = to_z-of_z w128 start (sfits_widen tt f);
+      wide_step = to_z-of_z w128 step (sfits_widen tt g);
+      count = to_z_pos w128 k (omega arith);
+      product = to_z-of_z w128 (pos k *ℤ step) product;
+      whole = to_z-of_z w128 (range_item start step k) (sfits_widen tt item);
+      item = to_z-of_z w64 (range_item start step k) item;
+    }

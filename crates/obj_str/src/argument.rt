@@ -3,7 +3,7 @@ ghost use Rattle.std.specs.Prelude.{◌≡◌, MatchResult};
 ghost use Rattle.py_data.specs.declared.record.Got.TheVariants.{Raise};
 ghost use Rattle.py_data.specs.declared.stop.Stop.TheVariants.{OutOfMemory};
 ghost use Rattle.py_data.specs.Sense.{Meets, Safe, IsLive};
-ghost use Rattle.py_data.specs.Fault.{argument_fault};
+ghost use Rattle.py_data.specs.Fault.{argument_fault, operand_fault};
 ghost use Rattle.obj_str.specs.Methods as methods;
 
 use crate::short::Text;
@@ -17,6 +17,13 @@ pub fn wrong_arguments<T>(alloc: Global) -> Result<Got<T>, Stop>
     ensures { MatchResult result (λ g. g ≡ Raise argument_fault) (λ e. e ≡ OutOfMemory) }
 {
     raise(alloc, TYPE_ERROR, b"wrong arguments")
+}
+
+/// The answer where an operation isn't for such a value: TypeError, `unsupported operand`.
+pub fn wrong_operand<T>(alloc: Global) -> Result<Got<T>, Stop>
+    ensures { MatchResult result (λ g. g ≡ Raise operand_fault) (λ e. e ≡ OutOfMemory) }
+{
+    raise(alloc, TYPE_ERROR, b"unsupported operand")
 }
 
 /// The argument, where there is one alone.

@@ -16,10 +16,12 @@ mod splitting;
 mod tests;
 mod text;
 
+pub use argument::{both, only, wrong_arguments, wrong_operand};
+pub use blanks::strip;
 pub use laws::{
     ends_law, find_law, holds_law, letters_law, replace_law, split_law, strip_law, words_law,
 };
 pub use method::str_method;
 pub use search::find;
 pub use short::Text;
-pub use text::{bytes_of, make_str};
+pub use text::{bytes_of, make_str, too_long};

@@ -6,7 +6,7 @@ ghost use Rattle.obj_str.specs.Pieces as pieces;
 ghost use Rattle.obj_str.specs.Strings.{new_text};
 ghost use Rattle.py_data.specs.Sense.{Meets, Safe, IsLive};
 
-use crate::argument::{both, only, text_item, wrong_arguments};
+use crate::argument::{both, only, text_item, wrong_arguments, wrong_operand};
 use crate::join::join;
 use crate::replace::replaced;
 use crate::splitting::split;
@@ -16,7 +16,6 @@ use py_base::builtin::{
     STR_ENDSWITH, STR_FIND, STR_JOIN, STR_LOWER, STR_REPLACE, STR_SPLIT, STR_STARTSWITH, STR_STRIP,
     STR_UPPER,
 };
-use py_data::exception::{TYPE_ERROR, raise};
 use py_data::{Addr, Got, Stop, Value, View};
 use std::alloc::Global;
 
@@ -301,6 +300,6 @@ pub fn str_method<S, V: View<S>>(
         STR_ENDSWITH => ends_with(alloc, v, a, only(args)),
         STR_FIND => find_part(alloc, v, a, only(args)),
         STR_REPLACE => replace(alloc, v, a, both(args)),
-        _ => raise(alloc, TYPE_ERROR, b"unsupported operand"),
+        _ => wrong_operand(alloc),
     }
 }

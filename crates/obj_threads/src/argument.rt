@@ -1,36 +1,17 @@
-//! Arguments of calls, and how they are refused.
-ghost use Rattle.std.specs.Prelude.{◌≡◌, MatchResult};
+//! Arguments of calls.
+ghost use Rattle.std.specs.Prelude.{◌≡◌};
 ghost use Rattle.py_base.specs.declared.kind.Kind.TheVariants as kinds;
-ghost use Rattle.py_data.specs.declared.record.Got.TheVariants.{Raise};
-ghost use Rattle.py_data.specs.declared.stop.Stop.TheVariants.{OutOfMemory};
-ghost use Rattle.py_data.specs.Fault.{argument_fault, operand_fault};
 ghost use Rattle.obj_threads.specs.Arguments as arguments;
 
 use crate::answer::Answer;
 use py_data::builtin::{LOCK_ACQUIRE, LOCK_LOCKED, LOCK_RELEASE, THREAD_JOIN, THREAD_START};
-use py_data::exception::{TYPE_ERROR, raise};
-use py_data::{Got, Stop, Value};
-use std::alloc::Global;
+use py_data::{Got, Value};
 
 /// A value as an answer.
 pub fn answered(x: Value) -> Got<Answer>
     ensures { result ≡ arguments.answered x }
 {
     Got::Is(Answer::Value(x))
-}
-
-/// The answer where the arguments are too many or too few, or one is of another type: TypeError, `wrong arguments`.
-pub fn wrong_arguments<T>(alloc: Global) -> Result<Got<T>, Stop>
-    ensures { MatchResult result (λ g. g ≡ Raise argument_fault) (λ e. e ≡ OutOfMemory) }
-{
-    raise(alloc, TYPE_ERROR, b"wrong arguments")
-}
-
-/// The answer of a method that was called on a value of another kind: TypeError, `unsupported operand`.
-pub fn unsupported<T>(alloc: Global) -> Result<Got<T>, Stop>
-    ensures { MatchResult result (λ g. g ≡ Raise operand_fault) (λ e. e ≡ OutOfMemory) }
-{
-    raise(alloc, TYPE_ERROR, b"unsupported operand")
 }
 
 /// Whether there are neither arguments nor keywords.

@@ -4,8 +4,7 @@ ghost use Rattle.py_data.specs.Heap.{value_at};
 ghost use Rattle.py_data.specs.Sense.{Meets, Safe, IsLive};
 ghost use Rattle.obj_threads.specs.Keywords as keywords;
 
-use crate::argument::wrong_arguments;
-use obj_str::{Text, bytes_of};
+use obj_str::{Text, bytes_of, wrong_arguments};
 use py_data::{Addr, Got, Stop, Value, View};
 use std::alloc::Global;
 

@@ -8,8 +8,9 @@ ghost use Rattle.py_data.specs.Sense.{Meets, Safe, IsLive};
 ghost use Rattle.obj_threads.specs.Locks as locks;
 
 use crate::answer::Answer;
-use crate::argument::{answered, is_bare, is_set, unsupported, wrong_arguments};
+use crate::argument::{answered, is_bare, is_set};
 use obj_nest::truth;
+use obj_str::{wrong_arguments, wrong_operand};
 use py_data::builtin::{LOCK_ACQUIRE, LOCK_RELEASE};
 use py_data::exception::{THREAD_ERROR, raise};
 use py_data::{Addr, Bytes, Got, Kind, NoMemory, Record, Stop, Value, Values, View, kind, look};
@@ -285,7 +286,7 @@ fn of_kind<S, V: View<S>>(
 {
     match kind {
         Kind::Lock => keyed(alloc, v, m, a, args, keys),
-        _ => unsupported(alloc),
+        _ => wrong_operand(alloc),
     }
 }
 
@@ -324,6 +325,6 @@ pub fn lock_method<S, V: View<S>>(
 {
     match own {
         Value::Ref(a) => of_record(alloc, v, m, a, args, keys),
-        _ => unsupported(alloc),
+        _ => wrong_operand(alloc),
     }
 }

@@ -4,7 +4,7 @@ ghost use Rattle.py_data.specs.Sense.{Meets, Safe, IsLive};
 ghost use Rattle.obj_threads.specs.Starting as starting;
 
 use crate::answer::Answer;
-use crate::argument::wrong_arguments;
+use obj_str::wrong_arguments;
 use py_data::exception::{THREAD_ERROR, raise};
 use py_data::{Addr, Got, Kind, Stop, Value, View, kind, look};
 use std::alloc::Global;

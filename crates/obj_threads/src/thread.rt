@@ -8,9 +8,10 @@ ghost use Rattle.py_data.specs.Sense.{Meets, Safe, IsLive};
 ghost use Rattle.obj_threads.specs.Threads as threads;
 
 use crate::answer::Answer;
-use crate::argument::{answered, is_bare, is_none, is_set, unsupported, wrong_arguments};
+use crate::argument::{answered, is_bare, is_none, is_set};
 use crate::keywords::{Keywords, read_keywords};
 use crate::starting::{begin, tuple_of};
+use obj_str::{wrong_arguments, wrong_operand};
 use py_data::builtin::THREAD_START;
 use py_data::exception::{RUNTIME_ERROR, raise};
 use py_data::{Addr, Bytes, Got, Kind, NoMemory, Record, Stop, Value, Values, View, kind, look};
@@ -391,7 +392,7 @@ fn of_kind<S, V: View<S>>(
 {
     match kind {
         Kind::Thread => bare(alloc, v, roots, me, m, a, args, keys),
-        _ => unsupported(alloc),
+        _ => wrong_operand(alloc),
     }
 }
 
@@ -437,6 +438,6 @@ pub fn thread_method<S, V: View<S>>(
 {
     match own {
         Value::Ref(a) => of_record(alloc, v, roots, me, m, a, args, keys),
-        _ => unsupported(alloc),
+        _ => wrong_operand(alloc),
     }
 }

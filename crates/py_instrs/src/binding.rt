@@ -171,9 +171,9 @@ fn numbered_row<S, V: View<S>>(
     defaulted_row(alloc, v, p, g, n, place_in(d))
 }
 
-/// What the call of the Function at an address enters, by what is passed on to it.
+/// What the call of the Function at an address enters, by what is passed on to it: its frame, or TypeError.
 #[tactic(auto, using(py_data::proofs::Rows::row_steps, py_data::proofs::Steps::call_steps), unfolding(py_frames::specs::Binding::bound_row))]
-fn passed_row<S, V: View<S>>(
+pub fn passed_row<S, V: View<S>>(
     alloc: Global,
     v: &mut V,
     p: &Program,
@@ -186,22 +186,6 @@ fn passed_row<S, V: View<S>>(
 {
     let n = look(v, f, 1)?;
     numbered_row(alloc, v, p, g, f, count_in(n)?)
-}
-
-/// What the call of the Function at an address enters: its frame, or TypeError.
-#[tactic(auto, using(py_data::proofs::Rows::row_steps))]
-pub fn bound_row<S, V: View<S>>(
-    alloc: Global,
-    v: &mut V,
-    p: &Program,
-    g: &Given<'_>,
-    f: Addr,
-) -> Result<Got<Frame>, Stop>
-    requires live { IsLive V.sense v.old }
-    requires safe { Safe V.sense.partial (binding.bound_row {S = S} p.now g.now f.0) (V.sense.heap v.old) }
-    ensures { Meets V.sense (binding.bound_row p.now g.now f.0) v.old v.new result }
-{
-    passed_row(alloc, v, p, &Passed::new(&[], g), f)
 }
 
 /// The same, where one argument more stands before all others.

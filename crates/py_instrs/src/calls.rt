@@ -5,10 +5,10 @@ ghost use Rattle.py_data.specs.Sense.{Meets, Safe, IsLive};
 ghost use Rattle.py_frames.specs.Binding as binding;
 ghost use Rattle.py_frames.specs.CallRows as call_rows;
 
-use crate::binding::bound_row;
+use crate::binding::passed_row;
 use crate::class_calls::{class_call, entered_row};
 use crate::raising::{place_in, push, raise_row, raise_text, values_row};
-use crate::site::{Given, Site, with_first};
+use crate::site::{Given, Passed, Site};
 use crate::starts::start_row;
 use obj_builtins::call;
 use obj_threads::Answer;
@@ -19,8 +19,25 @@ use py_frames::Next;
 use py_states::ThreadState;
 use std::alloc::Global;
 
-/// The call of the Function at an address.
+/// The call of the Function at an address, by what is passed on to it.
 #[tactic(auto, using(py_data::proofs::Rows::row_steps, py_data::proofs::Steps::call_steps), unfolding(py_frames::specs::CallRows::function_call))]
+fn passed_call<S, V: View<S>>(
+    alloc: Global,
+    v: &mut V,
+    s: &Site<'_>,
+    g: &Passed<'_, '_>,
+    f: Addr,
+) -> Result<Next, Stop>
+    requires live { IsLive V.sense v.old }
+    requires safe { Safe V.sense.partial (call_rows.function_call {S = S} s.now g.now f.0) (V.sense.heap v.old) }
+    ensures { Meets V.sense (call_rows.function_call s.now g.now f.0) v.old v.new result }
+{
+    let x = passed_row(alloc, v, s.program, g, f)?;
+    entered_row(alloc, v, s, x)
+}
+
+/// The call of the Function at an address.
+#[tactic(auto, using(py_data::proofs::Rows::row_steps))]
 pub fn function_call<S, V: View<S>>(
     alloc: Global,
     v: &mut V,
@@ -32,8 +49,7 @@ pub fn function_call<S, V: View<S>>(
     requires safe { Safe V.sense.partial (call_rows.function_call {S = S} s.now g.now f.0) (V.sense.heap v.old) }
     ensures { Meets V.sense (call_rows.function_call s.now g.now f.0) v.old v.new result }
 {
-    let x = bound_row(alloc, v, s.program, g, f)?;
-    entered_row(alloc, v, s, x)
+    passed_call(alloc, v, s, &Passed::new(&[], g), f)
 }
 
 /// What the answer of a builtin leads to.
@@ -158,13 +174,7 @@ fn function_first<S, V: View<S>>(
         (V.sense.heap v.old) }
     ensures { Meets V.sense (call_rows.function_call s.now (binding.with_first own g.now) f.0) v.old v.new result }
 {
-    let args = with_first(alloc, own, g.args)?;
-    let owned = Given {
-        args: args.as_slice(),
-        names: g.names,
-        values: g.values,
-    };
-    function_call(alloc, v, s, &owned, f)
+    passed_call(alloc, v, s, &Passed::new(&[own], g), f)
 }
 
 /// The call of what a Method binds to its own object.

@@ -8,11 +8,11 @@ ghost use Rattle.py_frames.specs.Raising.{raise_row};
 use crate::builtins::builtin_named;
 use crate::locals::const_row;
 use crate::programs::cell_number;
-use crate::raising::{done, pass, place_in, push, raise_row};
+use crate::raising::{done, pass, place_in, push, raise_row, told_name};
 use obj_class::held;
 use py_code::{Constant, Program};
 use py_data::exception::NAME_ERROR;
-use py_data::{Addr, Bytes, Fault, Got, NoMemory, Stop, Value, View, With, look};
+use py_data::{Addr, Fault, Got, NoMemory, Stop, Value, View, look};
 use py_frames::Next;
 use std::alloc::Global;
 
@@ -20,13 +20,7 @@ use std::alloc::Global;
 fn name_fault(alloc: Global, name: &[u8]) -> Result<Fault, NoMemory>
     ensures { IfOk result (λ e. e ≡ name_fault name.now) }
 {
-    let mut text = Bytes::from_slice(alloc, b"name '")?;
-    text.extend_from_slice(name)?;
-    text.extend_from_slice(b"' is not defined")?;
-    Ok(Fault {
-        exc: NAME_ERROR,
-        with: With::Text(text),
-    })
+    told_name(alloc, NAME_ERROR, b"name '", name, b"' is not defined")
 }
 
 /// Raises the exception of a name that nothing is bound to.

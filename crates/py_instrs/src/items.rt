@@ -3,13 +3,13 @@ ghost use Rattle.std.specs.Prelude.{◌≡◌, length, MatchResult};
 ghost use Rattle.py_data.specs.declared.record.Got.TheVariants.{Is};
 ghost use Rattle.py_data.specs.declared.stop.Stop.TheVariants.{OutOfMemory};
 ghost use Rattle.py_data.specs.declared.value.Value.TheVariants.{Ref};
-ghost use Rattle.py_data.specs.Comparing.{number_of};
 ghost use Rattle.py_data.specs.Texts.{got_then};
 ghost use Rattle.py_data.specs.Sense.{Meets, Safe, IsLive};
 ghost use Rattle.obj_seq.specs.Seq as seq;
 ghost use Rattle.py_frames.specs.ItemRows as rows;
 
 use crate::raising::{done, give};
+use obj_nest::number_of;
 use obj_seq::{del_item as del_place, item, set_item as set_place, slice};
 use obj_str::{bytes_of, make_str};
 use py_base::{first, skip};
@@ -17,17 +17,6 @@ use py_data::exception::{INDEX_ERROR, KEY_ERROR, TYPE_ERROR, raise};
 use py_data::{Addr, Fault, Got, Kind, Stop, Value, View, With, kind};
 use py_frames::Next;
 use std::alloc::Global;
-
-/// The number that a value is, if it is one.
-fn number_of(x: Value) -> Option<i64>
-    ensures { result ≡ number_of x }
-{
-    match x {
-        Value::Int(i) => Some(i),
-        Value::Bool(b) => Some(b as i64),
-        _ => None,
-    }
-}
 
 /// The place of an index among `n` items, if it has one. A negative index counts from the end.
 fn place_of(i: i64, n: usize) -> Option<usize>

@@ -5,10 +5,10 @@ ghost use Rattle.py_code.specs.declared.instr.Constant.TheVariants.{Root};
 ghost use Rattle.py_frames.specs.LocalRows.{const_row, del_local_row, load_local_row, unbound_fault};
 ghost use Rattle.py_frames.specs.Raising.{raise_row};
 
-use crate::raising::{push, raise_row};
+use crate::raising::{push, raise_row, told_name};
 use py_code::Constant;
 use py_data::exception::UNBOUND_LOCAL_ERROR;
-use py_data::{Addr, Bytes, Fault, NoMemory, Stop, Value, View, With, look};
+use py_data::{Addr, Fault, NoMemory, Stop, Value, View, look};
 use py_frames::Next;
 use std::alloc::Global;
 
@@ -43,13 +43,13 @@ pub fn const_row<S, V: View<S>>(v: &mut V, roots: Addr, c: Constant) -> Result<N
 fn unbound_fault(alloc: Global, name: &[u8]) -> Result<Fault, NoMemory>
     ensures { IfOk result (λ e. e ≡ unbound_fault name.now) }
 {
-    let mut text = Bytes::from_slice(alloc, b"local variable '")?;
-    text.extend_from_slice(name)?;
-    text.extend_from_slice(b"' referenced before assignment")?;
-    Ok(Fault {
-        exc: UNBOUND_LOCAL_ERROR,
-        with: With::Text(text),
-    })
+    told_name(
+        alloc,
+        UNBOUND_LOCAL_ERROR,
+        b"local variable '",
+        name,
+        b"' referenced before assignment",
+    )
 }
 
 /// Raises the exception of a slot without a value.

@@ -1,5 +1,5 @@
 //! Instructions that raise, and what an instruction makes of the answer of an operation on objects.
-ghost use Rattle.std.specs.Prelude.{◌≡◌, IfOk, [], ◌∷◌};
+ghost use Rattle.std.specs.Prelude.{◌≡◌, IfOk, [], ◌∷◌, ◌++◌};
 ghost use Rattle.py_data.specs.Fault.{depth_fault, memory_fault, operand_fault, text_fault};
 ghost use Rattle.py_data.specs.Sense.{Meets, Safe, IsLive};
 ghost use Rattle.py_frames.specs.declared.next.Next.TheVariants.{Enters, Goes};
@@ -161,6 +161,25 @@ pub fn told(alloc: Global, exc: u8, text: &[u8]) -> Result<Fault, NoMemory>
     ensures { IfOk result (λ e. e ≡ text_fault exc text.now) }
 {
     let text = Bytes::from_slice(alloc, text)?;
+    Ok(Fault {
+        exc,
+        with: With::Text(text),
+    })
+}
+
+/// An exception of a class with a text: a name, and what stands before and behind it.
+pub fn told_name(
+    alloc: Global,
+    exc: u8,
+    before: &[u8],
+    name: &[u8],
+    behind: &[u8],
+) -> Result<Fault, NoMemory>
+    ensures { IfOk result (λ e. e ≡ text_fault exc (before.now ++ name.now ++ behind.now)) }
+{
+    let mut text = Bytes::from_slice(alloc, before)?;
+    text.extend_from_slice(name)?;
+    text.extend_from_slice(behind)?;
     Ok(Fault {
         exc,
         with: With::Text(text),

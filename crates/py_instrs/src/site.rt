@@ -1,9 +1,9 @@
 //! What a call gives, and where it happens.
-ghost use Rattle.std.specs.Prelude.{◌≡◌, ◌∷◌, ◌++◌, length, OnOk, IfOk};
+ghost use Rattle.std.specs.Prelude.{◌≡◌, ◌++◌, length, OnOk, IfOk};
 
 use py_code::Program;
 use py_data::{Addr, NoMemory, Value, Values};
-use std::alloc::{AllocError, Global};
+use std::alloc::AllocError;
 use std::marker::Model;
 
 /// What a call gives: the arguments without a keyword, and for each keyword the number of its name among the roots,
@@ -92,14 +92,4 @@ impl<'a> Model for Site<'a> {
     ghost Value = { class_calls.Site };
 
     ghost view = { λ s. record { program = s.program.now; roots = s.roots.0; thread = s.thread; depth = s.depth } };
-}
-
-/// One value more, before all others.
-pub fn with_first(alloc: Global, x: Value, args: &[Value]) -> Result<Values, NoMemory>
-    ensures { IfOk result (λ a. a ≡ x ∷ args.now) }
-{
-    let mut all = Values::new(alloc);
-    all.push(x)?;
-    all.extend_from_slice(args)?;
-    Ok(all)
 }

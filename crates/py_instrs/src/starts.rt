@@ -1,12 +1,12 @@
 //! Threads that are started.
-ghost use Rattle.std.specs.Prelude.{◌≡◌, ◌∷◌, IfOk};
+ghost use Rattle.std.specs.Prelude.{◌≡◌, ◌∷◌, ◌++◌, IfOk};
 ghost use Rattle.py_data.specs.Sense.{Meets, Safe, IsLive};
 ghost use Rattle.py_frames.specs.Binding as binding;
 ghost use Rattle.py_frames.specs.CallRows as call_rows;
 
-use crate::binding::{bound_row, count_in};
+use crate::binding::{count_in, passed_row};
 use crate::raising::{place_in, push, raise_row, values_row};
-use crate::site::{Given, Site, with_first};
+use crate::site::{Passed, Site};
 use py_data::{Addr, Got, Kind, NoMemory, Stop, Value, View, kind, look};
 use py_frames::{Frame, Next};
 use py_states::ThreadState;
@@ -111,31 +111,54 @@ fn thread_row<V: View<ThreadState>>(
     }
 }
 
-/// What the call of the Function at an address enters, with arguments alone.
+/// What the call of the Function at an address enters, with arguments alone: the ones before, and then the others.
 #[tactic(auto, using(py_data::proofs::Rows::row_steps))]
 fn bound_plainly<S, V: View<S>>(
     alloc: Global,
     v: &mut V,
     s: &Site<'_>,
+    before: &[Value],
     args: &[Value],
     f: Addr,
 ) -> Result<Got<Frame>, Stop>
     requires live { IsLive V.sense v.old }
     requires safe { let p = s.now in Safe V.sense.partial
-        (binding.bound_row {S = S} p.program (binding.plainly args.now) f.0) (V.sense.heap v.old) }
-    ensures { let p = s.now in Meets V.sense (binding.bound_row p.program (binding.plainly args.now) f.0) v.old v.new
-        result }
+        (binding.bound_row {S = S} p.program (binding.plainly (before.now ++ args.now)) f.0) (V.sense.heap v.old) }
+    ensures { let p = s.now in Meets V.sense
+        (binding.bound_row p.program (binding.plainly (before.now ++ args.now)) f.0) v.old v.new result }
 {
-    let g = Given {
+    let g = Passed {
+        before,
         args,
         names: &[],
         values: &[],
     };
-    bound_row(alloc, v, s.program, &g, f)
+    passed_row(alloc, v, s.program, &g, f)
 }
 
-/// The thread starts with the call of the Function at an address. The arguments are bound before anything is changed.
+/// The thread starts with the call of the Function at an address, with the arguments before and then the others. They
+/// are bound before anything is changed.
 #[tactic(auto, using(py_data::proofs::Rows::row_steps, py_data::proofs::Steps::call_steps), unfolding(py_frames::specs::CallRows::function_start))]
+fn passed_start<V: View<ThreadState>>(
+    alloc: Global,
+    v: &mut V,
+    s: &Site<'_>,
+    thread: Option<Addr>,
+    before: &[Value],
+    args: &[Value],
+    f: Addr,
+) -> Result<Next, Stop>
+    requires live { IsLive V.sense v.old }
+    requires safe { Safe V.sense.partial (call_rows.function_start s.now thread (before.now ++ args.now) f.0)
+        (V.sense.heap v.old) }
+    ensures { Meets V.sense (call_rows.function_start s.now thread (before.now ++ args.now) f.0) v.old v.new result }
+{
+    let got = bound_plainly(alloc, v, s, before, args, f)?;
+    thread_row(alloc, v, s.roots, thread, got)
+}
+
+/// The thread starts with the call of the Function at an address, with these arguments.
+#[tactic(auto, using(py_data::proofs::Rows::row_steps))]
 fn function_start<V: View<ThreadState>>(
     alloc: Global,
     v: &mut V,
@@ -148,8 +171,7 @@ fn function_start<V: View<ThreadState>>(
     requires safe { Safe V.sense.partial (call_rows.function_start s.now thread args.now f.0) (V.sense.heap v.old) }
     ensures { Meets V.sense (call_rows.function_start s.now thread args.now f.0) v.old v.new result }
 {
-    let got = bound_plainly(alloc, v, s, args, f)?;
-    thread_row(alloc, v, s.roots, thread, got)
+    passed_start(alloc, v, s, thread, &[], args, f)
 }
 
 /// The same, where one argument more stands before all others.
@@ -168,8 +190,7 @@ fn first_start<V: View<ThreadState>>(
         (V.sense.heap v.old) }
     ensures { Meets V.sense (call_rows.function_start s.now thread (own ∷ args.now) f.0) v.old v.new result }
 {
-    let all = with_first(alloc, own, args)?;
-    function_start(alloc, v, s, thread, all.as_slice(), f)
+    passed_start(alloc, v, s, thread, &[own], args, f)
 }
 
 /// The thread starts with the call of a Method, whose own object is the first argument.

@@ -5,7 +5,7 @@ use Rattle.py_data.proofs.Steps.{live-after, safe-then}
 use Rattle.py_frames.specs.Binding.{bound_row}
 use Rattle.py_frames.specs.ClassCalls.{Site, entered_row}
 use Rattle.py_frames.specs.CallRows.{function_call}
-use Rattle.py_instrs.proofs.calls.function_call.Goals as goal
+use Rattle.py_instrs.proofs.calls.passed_call.Goals as goal
 
 pub entered_row-requires-clause-live : goal.entered_row-requires-clause-live
 entered_row-requires-clause-live g c = live-after g.V.View.sense g.met.V.View.lawful
@@ -18,6 +18,6 @@ entered_row-requires-clause-safe g c =
     let program : Site → Program = λ z. z.program in
     let e : c.s.inside.program.now ≡ s.program = ap program c.s.view_is in
     safe-then g.V.View.sense g.met.V.View.lawful (bound_row s.program c.args.g.now c.args.f.0) (entered_row s)
-    c.args.v.now c.bound_row.new.v c.in_ok-x.x c.requires.safe
-    (subst (λ z. Meets g.V.View.sense (bound_row z c.args.g.now c.args.f.0) c.args.v.now c.bound_row.new.v
+    c.args.v.now c.passed_row.new.v c.in_ok-x.x c.requires.safe
+    (subst (λ z. Meets g.V.View.sense (bound_row z c.args.g.now c.args.f.0) c.args.v.now c.passed_row.new.v
     (Ok c.in_ok-x.x)) e c.in_ok-x.ensures)
