@@ -175,9 +175,7 @@ fn grow_past_limit<S: SegStore>(rt: &impl Abort, alloc: Global, mut store: Bench
     store.lock(rt, 1, a);
     assert!(rt; refused_push(rt, &mut store, 1, a) == (1_684, 1_024, 2_048));
     assert_eq!(rt; size(rt, &store, 1, a), (256, 256, 0));
-    assert!(rt;
-        has_numbers(rt, &store, 0, a, (0, 256)) && has_numbers(rt, &store, 1, a, (0, 256))
-    );
+    assert!(rt; has_numbers(rt, &store, 0, a, (0, 256)) && has_numbers(rt, &store, 1, a, (0, 256)));
     store.cut(rt, 1, a, 255);
     store.push(rt, 1, a, Value::Int(255));
     assert!(rt; has_numbers(rt, &store, 1, a, (0, 256)));
@@ -266,15 +264,11 @@ fn write_shared_pages<S: SegStore>(rt: &impl Abort, alloc: Global, mut store: Be
         store.set(rt, 0, a, i, Value::None);
         store.set(rt, 1, b, i, Value::Bool(true));
     }
-    assert!(rt;
-        has_numbers(rt, &store, 1, a, (0, 600)) && has_numbers(rt, &store, 2, a, (0, 600))
-    );
+    assert!(rt; has_numbers(rt, &store, 1, a, (0, 600)) && has_numbers(rt, &store, 2, a, (0, 600)));
     assert!(rt; has_numbers(rt, &store, 0, b, (1_000, 1_600)));
     store.publish(rt, alloc, 0)?;
     'again: for i in 0..600 {
-        assert!(rt;
-            store.val(rt, 1, a, i) == Value::None && store.val(rt, 2, a, i) == Value::None
-        );
+        assert!(rt; store.val(rt, 1, a, i) == Value::None && store.val(rt, 2, a, i) == Value::None);
         assert!(rt; store.val(rt, 1, b, i) == Value::Bool(true));
     }
     store.drop_changes(rt, 1);
@@ -495,7 +489,13 @@ fn make_cells<S: SegStore>(
 }
 
 /// The number that a segment sees in another one's cell.
-fn cell_number<S: SegStore>(rt: &impl Abort, store: &Bench<S>, cells: &[Addr], k: u8, j: u8) -> i64 {
+fn cell_number<S: SegStore>(
+    rt: &impl Abort,
+    store: &Bench<S>,
+    cells: &[Addr],
+    k: u8,
+    j: u8,
+) -> i64 {
     match cells.get(j as usize) {
         Some(a) => number(rt, store, k, *a, 0),
         None => panic!(rt; "no cell"),
