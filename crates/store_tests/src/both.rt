@@ -2,9 +2,8 @@
 use crate::bench::Bench;
 use crate::extents::{Counts, Words, body_class, class_holding, extents};
 use crate::numbers::Numbers;
-use paged_store::PagedStore;
 use py_data::{Addr, Kind, Record, Value, Values};
-use seg_store::{PlainStore, StoreFault};
+use seg_store::{SegStore, StoreFault};
 use std::alloc::Global;
 use std::process::Abort;
 use std::test::Fail;
@@ -15,10 +14,10 @@ pub type Place = (Addr, Addr);
 /// Both stores, the places of the records that some segment sees, and the looks of each segment; and how many words
 /// must be reserved.
 #[derive(Drop)]
-pub struct Both {
+pub struct Both<M: SegStore, P: SegStore> {
     alloc: Global,
-    maps: Bench<PlainStore>,
-    pages: Bench<PagedStore>,
+    maps: Bench<M>,
+    pages: Bench<P>,
     places: Vec<Place>,
     looks: Vec<(u8, Addr, Addr)>,
     words: Words,
@@ -39,8 +38,8 @@ fn add_beyond(counts: &mut Counts, more: &Counts, base: &Counts) {
     }
 }
 
-impl Both {
-    pub fn new(alloc: Global, maps: Bench<PlainStore>, pages: Bench<PagedStore>) -> Both {
+impl<M: SegStore, P: SegStore> Both<M, P> {
+    pub fn new(alloc: Global, maps: Bench<M>, pages: Bench<P>) -> Both<M, P> {
         let words = Words::new(pages.limit());
         Both {
             alloc,

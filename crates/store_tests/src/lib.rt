@@ -12,6 +12,8 @@ mod extents;
 #[cfg(test)]
 mod index_rows;
 #[cfg(test)]
+mod kinds;
+#[cfg(test)]
 mod lists;
 #[cfg(test)]
 mod numbers;

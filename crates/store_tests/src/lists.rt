@@ -6,6 +6,7 @@ use crate::acts::{maps, paged};
 use crate::both::{Both, Place};
 use crate::numbers::Numbers;
 use py_data::{Bytes, Kind, Record, Value, Values};
+use seg_store::SegStore;
 use std::alloc::Global;
 use std::process::Abort;
 use std::test::Fail;
@@ -14,14 +15,14 @@ type Tested = Result<(), Fail>;
 
 /// A list of events as it is made: both stores, what each next event follows from, and the segment that it is of.
 #[derive(Drop)]
-struct Events {
+struct Events<M: SegStore, P: SegStore> {
     alloc: Global,
-    both: Both,
+    both: Both<M, P>,
     numbers: Numbers,
     k: u8,
 }
 
-impl Events {
+impl<M: SegStore, P: SegStore> Events<M, P> {
     fn below(&mut self, n: usize) -> usize
         requires { 1 ≤ n }
         ensures { result < n }
@@ -382,6 +383,25 @@ fn page_count(numbers: &mut Numbers) -> u32 {
     }
 }
 
+/// Does so many events, each of one of the segments. Answers whether a call of them met a full heap.
+fn do_events<M: SegStore, P: SegStore>(
+    rt: &impl Abort,
+    mut events: Events<M, P>,
+    segments: usize,
+    n: usize,
+) -> Result<bool, Fail>
+    requires some { 1 ≤ segments }
+    requires few { segments ≤ 8 }
+{
+    'events: for _ in 0..n {
+        events.k = events.below(segments) as u8;
+        events.event(rt)?;
+        events.both.same_books(rt);
+    }
+    events.both.same_records(rt)?;
+    Ok(events.both.was_full())
+}
+
 /// Does the list of a seed. Answers whether a call of it met a full heap.
 fn do_list(rt: &impl Abort, alloc: Global, seed: u64) -> Result<bool, Fail> {
     let mut numbers = Numbers::new(seed);
@@ -393,19 +413,13 @@ fn do_list(rt: &impl Abort, alloc: Global, seed: u64) -> Result<bool, Fail> {
         maps(rt, alloc, segments as u8)?,
         paged(rt, alloc, segments as u8, pages)?,
     );
-    let mut events = Events {
+    let events = Events {
         alloc,
         both,
         numbers,
         k: 0,
     };
-    'events: for _ in 0..n {
-        events.k = events.below(segments) as u8;
-        events.event(rt)?;
-        events.both.same_books(rt);
-    }
-    events.both.same_records(rt)?;
-    Ok(events.both.was_full())
+    do_events(rt, events, segments, n)
 }
 
 /// Does the lists of 250 seeds, of which some meet a full heap and others don't.

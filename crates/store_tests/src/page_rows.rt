@@ -5,8 +5,8 @@ use crate::acts::{
     refused_pair, refused_push, size,
 };
 use crate::bench::Bench;
-use paged_store::PagedStore;
 use py_data::{Addr, Kind, Value};
+use seg_store::SegStore;
 use std::alloc::Global;
 use std::process::Abort;
 use std::test::Fail;
@@ -14,10 +14,10 @@ use std::test::Fail;
 type Tested = Result<(), Fail>;
 
 /// Makes so many empty Lists.
-fn make_lists(
+fn make_lists<S: SegStore>(
     rt: &impl Abort,
     alloc: Global,
-    store: &mut Bench<PagedStore>,
+    store: &mut Bench<S>,
     k: u8,
     n: usize,
 ) -> Tested {
@@ -28,96 +28,111 @@ fn make_lists(
 }
 
 /// One page has 512 words, of which two are taken at first: 127 headers of 4 words leave 2.
-#[test]
-fn one_page_is_full(rt: HostRuntime) -> Tested {
-    let mut store = paged(&rt, rt.alloc(), 2, 1)?;
+fn fill_one_page<S: SegStore>(rt: &impl Abort, alloc: Global, mut store: Bench<S>) -> Tested {
     assert!(rt; store.segments() == 2 && store.limit() == 512);
     assert_eq!(rt; store.reserved(), 2);
-    let a = make(&rt, rt.alloc(), &mut store, 0, Kind::List, &[])?;
+    let a = make(rt, alloc, &mut store, 0, Kind::List, &[])?;
     assert_eq!(rt; store.reserved(), 6);
-    store.publish(&rt, rt.alloc(), 0)?;
-    make_lists(&rt, rt.alloc(), &mut store, 0, 126)?;
+    store.publish(rt, alloc, 0)?;
+    make_lists(rt, alloc, &mut store, 0, 126)?;
     assert_eq!(rt; store.reserved(), 510);
     let full = (510, 4, 512);
-    assert!(rt; refused(&rt, rt.alloc(), &mut store, 0, Kind::List, &[])? == full);
-    assert!(rt; refused(&rt, rt.alloc(), &mut store, 1, Kind::Dict, &[])? == full);
+    assert!(rt; refused(rt, alloc, &mut store, 0, Kind::List, &[])? == full);
+    assert!(rt; refused(rt, alloc, &mut store, 1, Kind::Dict, &[])? == full);
     assert_eq!(rt; store.reserved(), 510);
-    assert_eq!(rt; size(&rt, &store, 1, a), (0, 0, 0));
+    assert_eq!(rt; size(rt, &store, 1, a), (0, 0, 0));
     assert!(rt; store.holder(a).is_none());
     Ok(())
 }
 
+#[test]
+fn one_page_is_full(rt: HostRuntime) -> Tested {
+    fill_one_page(&rt, rt.alloc(), paged(&rt, rt.alloc(), 2, 1)?)
+}
+
 /// A List of the full heap takes the last two words for its first body, and has none for the next.
+fn take_last_words<S: SegStore>(rt: &impl Abort, alloc: Global, mut store: Bench<S>) -> Tested {
+    let a = make(rt, alloc, &mut store, 0, Kind::List, &[])?;
+    store.publish(rt, alloc, 0)?;
+    make_lists(rt, alloc, &mut store, 1, 126)?;
+    store.lock(rt, 0, a);
+    store.push(rt, 0, a, Value::Int(1));
+    assert_eq!(rt; store.reserved(), 512);
+    assert!(rt; refused_push(rt, &mut store, 0, a) == (512, 4, 512));
+    assert_eq!(rt; size(rt, &store, 0, a), (1, 1, 0));
+    assert_eq!(rt; number(rt, &store, 0, a, 0), 1);
+    assert_eq!(rt; size(rt, &store, 1, a), (0, 0, 0));
+    Ok(())
+}
+
 #[test]
 fn last_words(rt: HostRuntime) -> Tested {
-    let mut store = paged(&rt, rt.alloc(), 2, 1)?;
-    let a = make(&rt, rt.alloc(), &mut store, 0, Kind::List, &[])?;
-    store.publish(&rt, rt.alloc(), 0)?;
-    make_lists(&rt, rt.alloc(), &mut store, 1, 126)?;
-    store.lock(&rt, 0, a);
-    store.push(&rt, 0, a, Value::Int(1));
-    assert_eq!(rt; store.reserved(), 512);
-    assert!(rt; refused_push(&rt, &mut store, 0, a) == (512, 4, 512));
-    assert_eq!(rt; size(&rt, &store, 0, a), (1, 1, 0));
-    assert_eq!(rt; number(&rt, &store, 0, a, 0), 1);
-    assert_eq!(rt; size(&rt, &store, 1, a), (0, 0, 0));
-    Ok(())
+    take_last_words(&rt, rt.alloc(), paged(&rt, rt.alloc(), 2, 1)?)
 }
 
 /// A header that is taken for a record whose body can't be had is given back, and stays reserved.
-#[test]
-fn header_without_body(rt: HostRuntime) -> Tested {
-    let mut store = paged(&rt, rt.alloc(), 1, 1)?;
-    make_lists(&rt, rt.alloc(), &mut store, 0, 126)?;
+fn make_without_body<S: SegStore>(rt: &impl Abort, alloc: Global, mut store: Bench<S>) -> Tested {
+    make_lists(rt, alloc, &mut store, 0, 126)?;
     assert_eq!(rt; store.reserved(), 506);
     let four = [Value::None, Value::None, Value::None, Value::None];
-    assert!(rt; refused(&rt, rt.alloc(), &mut store, 0, Kind::Tuple, &four)? == (510, 8, 512));
+    assert!(rt; refused(rt, alloc, &mut store, 0, Kind::Tuple, &four)? == (510, 8, 512));
     assert_eq!(rt; store.reserved(), 510);
-    make_lists(&rt, rt.alloc(), &mut store, 0, 1)?;
+    make_lists(rt, alloc, &mut store, 0, 1)?;
     assert_eq!(rt; store.reserved(), 510);
     Ok(())
 }
 
-/// A Dict whose next body is there, but not its next index: the body is given back.
 #[test]
-fn body_without_index(rt: HostRuntime) -> Tested {
-    let mut store = paged(&rt, rt.alloc(), 1, 1)?;
-    let d = make(&rt, rt.alloc(), &mut store, 0, Kind::Dict, &[])?;
+fn header_without_body(rt: HostRuntime) -> Tested {
+    make_without_body(&rt, rt.alloc(), paged(&rt, rt.alloc(), 1, 1)?)
+}
+
+/// A Dict whose next body is there, but not its next index: the body is given back.
+fn pair_without_index<S: SegStore>(rt: &impl Abort, alloc: Global, mut store: Bench<S>) -> Tested {
+    let d = make(rt, alloc, &mut store, 0, Kind::Dict, &[])?;
     assert_eq!(rt; store.reserved(), 12);
-    put_numbers(&rt, &mut store, 0, d, (0, 1), 10);
-    make_lists(&rt, rt.alloc(), &mut store, 0, 123)?;
+    put_numbers(rt, &mut store, 0, d, (0, 1), 10);
+    make_lists(rt, alloc, &mut store, 0, 123)?;
     assert_eq!(rt; store.reserved(), 504);
-    assert!(rt; refused_pair(&rt, &mut store, 0, d, 9) == (512, 4, 512));
-    assert_eq!(rt; size(&rt, &store, 0, d), (2, 2, 2));
-    assert!(rt; store.find_key(&rt, 0, d, Value::Int(0)) == Some(0));
-    assert_eq!(rt; number(&rt, &store, 0, d, 1), 10);
-    store.drop_changes(&rt, 0);
-    let e = make(&rt, rt.alloc(), &mut store, 0, Kind::Dict, &[])?;
-    put_numbers(&rt, &mut store, 0, e, (0, 2), 10);
-    assert_eq!(rt; size(&rt, &store, 0, e), (4, 4, 2));
+    assert!(rt; refused_pair(rt, &mut store, 0, d, 9) == (512, 4, 512));
+    assert_eq!(rt; size(rt, &store, 0, d), (2, 2, 2));
+    assert!(rt; store.find_key(rt, 0, d, Value::Int(0)) == Some(0));
+    assert_eq!(rt; number(rt, &store, 0, d, 1), 10);
+    store.drop_changes(rt, 0);
+    let e = make(rt, alloc, &mut store, 0, Kind::Dict, &[])?;
+    put_numbers(rt, &mut store, 0, e, (0, 2), 10);
+    assert_eq!(rt; size(rt, &store, 0, e), (4, 4, 2));
     assert_eq!(rt; store.reserved(), 512);
     Ok(())
 }
 
-/// What a step that is taken back or a transaction that is dropped gave back is taken again.
 #[test]
-fn taken_again(rt: HostRuntime) -> Tested {
-    let mut store = paged(&rt, rt.alloc(), 2, 1)?;
-    store.open_step(&rt, 0);
-    make_lists(&rt, rt.alloc(), &mut store, 0, 127)?;
-    store.undo_step(&rt, 0);
+fn body_without_index(rt: HostRuntime) -> Tested {
+    pair_without_index(&rt, rt.alloc(), paged(&rt, rt.alloc(), 1, 1)?)
+}
+
+/// What a step that is taken back or a transaction that is dropped gave back is taken again.
+fn take_again<S: SegStore>(rt: &impl Abort, alloc: Global, mut store: Bench<S>) -> Tested {
+    store.open_step(rt, 0);
+    make_lists(rt, alloc, &mut store, 0, 127)?;
+    store.undo_step(rt, 0);
     assert_eq!(rt; store.reserved(), 510);
-    make_lists(&rt, rt.alloc(), &mut store, 0, 127)?;
+    make_lists(rt, alloc, &mut store, 0, 127)?;
     assert_eq!(rt; store.reserved(), 510);
-    store.drop_changes(&rt, 0);
-    make_lists(&rt, rt.alloc(), &mut store, 1, 127)?;
+    store.drop_changes(rt, 0);
+    make_lists(rt, alloc, &mut store, 1, 127)?;
     assert_eq!(rt; store.reserved(), 510);
-    assert!(rt; refused(&rt, rt.alloc(), &mut store, 0, Kind::List, &[])? == (510, 4, 512));
+    assert!(rt; refused(rt, alloc, &mut store, 0, Kind::List, &[])? == (510, 4, 512));
     Ok(())
 }
 
+#[test]
+fn taken_again(rt: HostRuntime) -> Tested {
+    take_again(&rt, rt.alloc(), paged(&rt, rt.alloc(), 2, 1)?)
+}
+
 /// Makes records whose words, with the first two, are 1,684, and answers a List of 256 numbers among them.
-fn worked(rt: &impl Abort, alloc: Global, store: &mut Bench<PagedStore>) -> Result<Addr, Fail> {
+fn worked<S: SegStore>(rt: &impl Abort, alloc: Global, store: &mut Bench<S>) -> Result<Addr, Fail> {
     let a = make(rt, alloc, store, 0, Kind::List, &[])?;
     push_numbers(rt, store, 0, a, 0, 256);
     make(rt, alloc, store, 0, Kind::List, &[])?;
@@ -151,64 +166,68 @@ fn worked(rt: &impl Abort, alloc: Global, store: &mut Bench<PagedStore>) -> Resu
 }
 
 /// The next body of a List of 256 values has 1,024 words.
-#[test]
-fn next_body(rt: HostRuntime) -> Tested {
-    let mut store = paged(&rt, rt.alloc(), 2, 4)?;
-    let a = worked(&rt, rt.alloc(), &mut store)?;
-    assert_eq!(rt; size(&rt, &store, 0, a), (256, 256, 0));
-    assert!(rt; refused_push(&rt, &mut store, 0, a) == (1_684, 1_024, 2_048));
+fn grow_past_limit<S: SegStore>(rt: &impl Abort, alloc: Global, mut store: Bench<S>) -> Tested {
+    let a = worked(rt, alloc, &mut store)?;
+    assert_eq!(rt; size(rt, &store, 0, a), (256, 256, 0));
+    assert!(rt; refused_push(rt, &mut store, 0, a) == (1_684, 1_024, 2_048));
     assert_eq!(rt; store.reserved(), 1_684);
-    store.publish(&rt, rt.alloc(), 0)?;
-    store.lock(&rt, 1, a);
-    assert!(rt; refused_push(&rt, &mut store, 1, a) == (1_684, 1_024, 2_048));
-    assert_eq!(rt; size(&rt, &store, 1, a), (256, 256, 0));
-    assert!(rt;
-        has_numbers(&rt, &store, 0, a, (0, 256)) && has_numbers(&rt, &store, 1, a, (0, 256))
-    );
-    store.cut(&rt, 1, a, 255);
-    store.push(&rt, 1, a, Value::Int(255));
-    assert!(rt; has_numbers(&rt, &store, 1, a, (0, 256)));
+    store.publish(rt, alloc, 0)?;
+    store.lock(rt, 1, a);
+    assert!(rt; refused_push(rt, &mut store, 1, a) == (1_684, 1_024, 2_048));
+    assert_eq!(rt; size(rt, &store, 1, a), (256, 256, 0));
+    assert!(rt; has_numbers(rt, &store, 0, a, (0, 256)) && has_numbers(rt, &store, 1, a, (0, 256)));
+    store.cut(rt, 1, a, 255);
+    store.push(rt, 1, a, Value::Int(255));
+    assert!(rt; has_numbers(rt, &store, 1, a, (0, 256)));
     Ok(())
 }
 
-/// What one segment wrote is not seen by the other before it is published, and by both after.
 #[test]
-fn own_pages(rt: HostRuntime) -> Tested {
-    let mut store = paged(&rt, rt.alloc(), 2, 2)?;
+fn next_body(rt: HostRuntime) -> Tested {
+    grow_past_limit(&rt, rt.alloc(), paged(&rt, rt.alloc(), 2, 4)?)
+}
+
+/// What one segment wrote is not seen by the other before it is published, and by both after.
+fn write_own_pages<S: SegStore>(rt: &impl Abort, alloc: Global, mut store: Bench<S>) -> Tested {
     let a = make(
-        &rt,
-        rt.alloc(),
+        rt,
+        alloc,
         &mut store,
         0,
         Kind::List,
         &[Value::Int(1), Value::Int(2)],
     )?;
     let b = make(
-        &rt,
-        rt.alloc(),
+        rt,
+        alloc,
         &mut store,
         0,
         Kind::List,
         &[Value::Int(3), Value::Int(4)],
     )?;
-    store.publish(&rt, rt.alloc(), 0)?;
-    store.lock(&rt, 0, a);
-    store.lock(&rt, 1, b);
-    store.set(&rt, 0, a, 0, Value::Int(10));
-    store.set(&rt, 1, b, 1, Value::Int(40));
-    assert!(rt; has_pair(&rt, &store, 0, a, 10, 2) && has_pair(&rt, &store, 1, a, 1, 2));
-    assert!(rt; has_pair(&rt, &store, 0, b, 3, 4) && has_pair(&rt, &store, 1, b, 3, 40));
-    store.publish(&rt, rt.alloc(), 0)?;
-    assert!(rt; has_pair(&rt, &store, 0, a, 10, 2) && has_pair(&rt, &store, 1, a, 10, 2));
-    assert!(rt; has_pair(&rt, &store, 0, b, 3, 4) && has_pair(&rt, &store, 1, b, 3, 40));
-    store.publish(&rt, rt.alloc(), 1)?;
-    assert!(rt; has_pair(&rt, &store, 0, b, 3, 40) && has_pair(&rt, &store, 1, b, 3, 40));
+    store.publish(rt, alloc, 0)?;
+    store.lock(rt, 0, a);
+    store.lock(rt, 1, b);
+    store.set(rt, 0, a, 0, Value::Int(10));
+    store.set(rt, 1, b, 1, Value::Int(40));
+    assert!(rt; has_pair(rt, &store, 0, a, 10, 2) && has_pair(rt, &store, 1, a, 1, 2));
+    assert!(rt; has_pair(rt, &store, 0, b, 3, 4) && has_pair(rt, &store, 1, b, 3, 40));
+    store.publish(rt, alloc, 0)?;
+    assert!(rt; has_pair(rt, &store, 0, a, 10, 2) && has_pair(rt, &store, 1, a, 10, 2));
+    assert!(rt; has_pair(rt, &store, 0, b, 3, 4) && has_pair(rt, &store, 1, b, 3, 40));
+    store.publish(rt, alloc, 1)?;
+    assert!(rt; has_pair(rt, &store, 0, b, 3, 40) && has_pair(rt, &store, 1, b, 3, 40));
     Ok(())
 }
 
-fn has_pair(
+#[test]
+fn own_pages(rt: HostRuntime) -> Tested {
+    write_own_pages(&rt, rt.alloc(), paged(&rt, rt.alloc(), 2, 2)?)
+}
+
+fn has_pair<S: SegStore>(
     rt: &impl Abort,
-    store: &Bench<PagedStore>,
+    store: &Bench<S>,
     k: u8,
     a: Addr,
     first: i64,
@@ -218,10 +237,10 @@ fn has_pair(
 }
 
 /// Two Lists of 600 numbers, whose bodies span pages.
-fn two_lists(
+fn two_lists<S: SegStore>(
     rt: &impl Abort,
     alloc: Global,
-    store: &mut Bench<PagedStore>,
+    store: &mut Bench<S>,
 ) -> Result<(Addr, Addr), Fail> {
     let a = make(rt, alloc, store, 0, Kind::List, &[])?;
     let b = make(rt, alloc, store, 0, Kind::List, &[])?;
@@ -237,128 +256,136 @@ fn two_lists(
 }
 
 /// Two segments change records that share pages; one publishes and the other drops.
-#[test]
-fn shared_pages(rt: HostRuntime) -> Tested {
-    let mut store = paged(&rt, rt.alloc(), 3, 32)?;
-    let (a, b) = two_lists(&rt, rt.alloc(), &mut store)?;
-    store.lock(&rt, 0, a);
-    store.lock(&rt, 1, b);
+fn write_shared_pages<S: SegStore>(rt: &impl Abort, alloc: Global, mut store: Bench<S>) -> Tested {
+    let (a, b) = two_lists(rt, alloc, &mut store)?;
+    store.lock(rt, 0, a);
+    store.lock(rt, 1, b);
     'places: for i in 0..600 {
-        store.set(&rt, 0, a, i, Value::None);
-        store.set(&rt, 1, b, i, Value::Bool(true));
+        store.set(rt, 0, a, i, Value::None);
+        store.set(rt, 1, b, i, Value::Bool(true));
     }
-    assert!(rt;
-        has_numbers(&rt, &store, 1, a, (0, 600)) && has_numbers(&rt, &store, 2, a, (0, 600))
-    );
-    assert!(rt; has_numbers(&rt, &store, 0, b, (1_000, 1_600)));
-    store.publish(&rt, rt.alloc(), 0)?;
+    assert!(rt; has_numbers(rt, &store, 1, a, (0, 600)) && has_numbers(rt, &store, 2, a, (0, 600)));
+    assert!(rt; has_numbers(rt, &store, 0, b, (1_000, 1_600)));
+    store.publish(rt, alloc, 0)?;
     'again: for i in 0..600 {
-        assert!(rt;
-            store.val(&rt, 1, a, i) == Value::None && store.val(&rt, 2, a, i) == Value::None
-        );
-        assert!(rt; store.val(&rt, 1, b, i) == Value::Bool(true));
+        assert!(rt; store.val(rt, 1, a, i) == Value::None && store.val(rt, 2, a, i) == Value::None);
+        assert!(rt; store.val(rt, 1, b, i) == Value::Bool(true));
     }
-    store.drop_changes(&rt, 1);
-    assert!(rt; has_numbers(&rt, &store, 1, b, (1_000, 1_600)));
-    assert!(rt; has_numbers(&rt, &store, 0, b, (1_000, 1_600)));
+    store.drop_changes(rt, 1);
+    assert!(rt; has_numbers(rt, &store, 1, b, (1_000, 1_600)));
+    assert!(rt; has_numbers(rt, &store, 0, b, (1_000, 1_600)));
     Ok(())
 }
 
-/// Strings that span pages, between Lists that two segments change.
 #[test]
-fn long_strings(rt: HostRuntime) -> Tested {
-    let mut store = paged(&rt, rt.alloc(), 2, 16)?;
-    let mut text = vec![in rt.alloc(); 7u8; 5_000]?;
+fn shared_pages(rt: HostRuntime) -> Tested {
+    write_shared_pages(&rt, rt.alloc(), paged(&rt, rt.alloc(), 3, 32)?)
+}
+
+/// Strings that span pages, between Lists that two segments change.
+fn keep_long_strings<S: SegStore>(rt: &impl Abort, alloc: Global, mut store: Bench<S>) -> Tested {
+    let mut text = vec![in alloc; 7u8; 5_000]?;
     text[0] = 255;
     text[4_095] = 1;
     text[4_096] = 2;
     text[4_999] = 254;
     let a = make(
-        &rt,
-        rt.alloc(),
+        rt,
+        alloc,
         &mut store,
         0,
         Kind::List,
         &[Value::Int(1), Value::Int(2)],
     )?;
-    let s = make_text(&rt, rt.alloc(), &mut store, 0, &text)?;
+    let s = make_text(rt, alloc, &mut store, 0, &text)?;
     let b = make(
-        &rt,
-        rt.alloc(),
+        rt,
+        alloc,
         &mut store,
         0,
         Kind::List,
         &[Value::Int(3), Value::Int(4)],
     )?;
-    store.publish(&rt, rt.alloc(), 0)?;
+    store.publish(rt, alloc, 0)?;
     assert_eq!(rt; store.reserved(), 2 + 4 + 4 + 4 + 1_024 + 4 + 4);
-    store.lock(&rt, 0, a);
-    store.lock(&rt, 1, b);
-    store.set(&rt, 0, a, 0, Value::Int(5));
-    store.set(&rt, 1, b, 0, Value::Int(6));
+    store.lock(rt, 0, a);
+    store.lock(rt, 1, b);
+    store.set(rt, 0, a, 0, Value::Int(5));
+    store.set(rt, 1, b, 0, Value::Int(6));
     text[17] = 8;
-    let t = make_text(&rt, rt.alloc(), &mut store, 1, &text)?;
-    assert!(rt; has_text(&rt, rt.alloc(), &store, 1, t, &text)?);
-    store.publish(&rt, rt.alloc(), 1)?;
-    assert!(rt; has_text(&rt, rt.alloc(), &store, 0, t, &text)?);
-    store.drop_changes(&rt, 0);
+    let t = make_text(rt, alloc, &mut store, 1, &text)?;
+    assert!(rt; has_text(rt, alloc, &store, 1, t, &text)?);
+    store.publish(rt, alloc, 1)?;
+    assert!(rt; has_text(rt, alloc, &store, 0, t, &text)?);
+    store.drop_changes(rt, 0);
     text[17] = 7;
-    assert!(rt; has_text(&rt, rt.alloc(), &store, 0, s, &text)?);
-    assert!(rt; has_text(&rt, rt.alloc(), &store, 1, s, &text)?);
-    assert!(rt; has_pair(&rt, &store, 0, a, 1, 2) && has_pair(&rt, &store, 1, a, 1, 2));
-    assert!(rt; has_pair(&rt, &store, 0, b, 6, 4) && has_pair(&rt, &store, 1, b, 6, 4));
+    assert!(rt; has_text(rt, alloc, &store, 0, s, &text)?);
+    assert!(rt; has_text(rt, alloc, &store, 1, s, &text)?);
+    assert!(rt; has_pair(rt, &store, 0, a, 1, 2) && has_pair(rt, &store, 1, a, 1, 2));
+    assert!(rt; has_pair(rt, &store, 0, b, 6, 4) && has_pair(rt, &store, 1, b, 6, 4));
     Ok(())
+}
+
+#[test]
+fn long_strings(rt: HostRuntime) -> Tested {
+    keep_long_strings(&rt, rt.alloc(), paged(&rt, rt.alloc(), 2, 16)?)
 }
 
 /// A List that grew twice, and is dropped, has its old body again.
-#[test]
-fn growth_is_dropped(rt: HostRuntime) -> Tested {
-    let mut store = paged(&rt, rt.alloc(), 2, 4)?;
-    let a = make(&rt, rt.alloc(), &mut store, 0, Kind::List, &[])?;
-    push_numbers(&rt, &mut store, 0, a, 0, 4);
-    store.publish(&rt, rt.alloc(), 0)?;
+fn drop_growth<S: SegStore>(rt: &impl Abort, alloc: Global, mut store: Bench<S>) -> Tested {
+    let a = make(rt, alloc, &mut store, 0, Kind::List, &[])?;
+    push_numbers(rt, &mut store, 0, a, 0, 4);
+    store.publish(rt, alloc, 0)?;
     assert_eq!(rt; store.reserved(), 2 + 4 + 2 + 4 + 8);
-    store.lock(&rt, 1, a);
-    push_numbers(&rt, &mut store, 1, a, 4, 12);
-    assert_eq!(rt; size(&rt, &store, 1, a), (12, 16, 0));
-    assert_eq!(rt; size(&rt, &store, 0, a), (4, 4, 0));
+    store.lock(rt, 1, a);
+    push_numbers(rt, &mut store, 1, a, 4, 12);
+    assert_eq!(rt; size(rt, &store, 1, a), (12, 16, 0));
+    assert_eq!(rt; size(rt, &store, 0, a), (4, 4, 0));
     assert_eq!(rt; store.reserved(), 20 + 16 + 32);
-    store.set(&rt, 1, a, 2, Value::None);
-    store.drop_changes(&rt, 1);
-    assert_eq!(rt; size(&rt, &store, 1, a), (4, 4, 0));
-    assert!(rt; has_numbers(&rt, &store, 1, a, (0, 4)));
-    store.lock(&rt, 0, a);
-    push_numbers(&rt, &mut store, 0, a, 4, 12);
+    store.set(rt, 1, a, 2, Value::None);
+    store.drop_changes(rt, 1);
+    assert_eq!(rt; size(rt, &store, 1, a), (4, 4, 0));
+    assert!(rt; has_numbers(rt, &store, 1, a, (0, 4)));
+    store.lock(rt, 0, a);
+    push_numbers(rt, &mut store, 0, a, 4, 12);
     assert_eq!(rt; store.reserved(), 68);
-    store.publish(&rt, rt.alloc(), 0)?;
-    assert!(rt; has_numbers(&rt, &store, 1, a, (0, 12)));
+    store.publish(rt, alloc, 0)?;
+    assert!(rt; has_numbers(rt, &store, 1, a, (0, 12)));
     Ok(())
 }
 
+#[test]
+fn growth_is_dropped(rt: HostRuntime) -> Tested {
+    drop_growth(&rt, rt.alloc(), paged(&rt, rt.alloc(), 2, 4)?)
+}
+
 /// A step in which a List grew twice is taken back, and done again.
+fn take_growth_back<S: SegStore>(rt: &impl Abort, alloc: Global, mut store: Bench<S>) -> Tested {
+    let a = make(rt, alloc, &mut store, 0, Kind::List, &[])?;
+    push_numbers(rt, &mut store, 0, a, 0, 4);
+    store.publish(rt, alloc, 0)?;
+    store.lock(rt, 1, a);
+    store.set(rt, 1, a, 0, Value::Int(100));
+    store.open_step(rt, 1);
+    store.set(rt, 1, a, 0, Value::Int(0));
+    push_numbers(rt, &mut store, 1, a, 4, 12);
+    store.cut(rt, 1, a, 9);
+    store.undo_step(rt, 1);
+    assert_eq!(rt; size(rt, &store, 1, a), (4, 4, 0));
+    assert_eq!(rt; number(rt, &store, 1, a, 0), 100);
+    store.set(rt, 1, a, 0, Value::Int(0));
+    assert!(rt; has_numbers(rt, &store, 1, a, (0, 4)));
+    store.open_step(rt, 1);
+    push_numbers(rt, &mut store, 1, a, 4, 12);
+    assert_eq!(rt; store.reserved(), 68);
+    store.publish(rt, alloc, 1)?;
+    assert!(rt; has_numbers(rt, &store, 0, a, (0, 12)));
+    Ok(())
+}
+
 #[test]
 fn growth_is_taken_back(rt: HostRuntime) -> Tested {
-    let mut store = paged(&rt, rt.alloc(), 2, 4)?;
-    let a = make(&rt, rt.alloc(), &mut store, 0, Kind::List, &[])?;
-    push_numbers(&rt, &mut store, 0, a, 0, 4);
-    store.publish(&rt, rt.alloc(), 0)?;
-    store.lock(&rt, 1, a);
-    store.set(&rt, 1, a, 0, Value::Int(100));
-    store.open_step(&rt, 1);
-    store.set(&rt, 1, a, 0, Value::Int(0));
-    push_numbers(&rt, &mut store, 1, a, 4, 12);
-    store.cut(&rt, 1, a, 9);
-    store.undo_step(&rt, 1);
-    assert_eq!(rt; size(&rt, &store, 1, a), (4, 4, 0));
-    assert_eq!(rt; number(&rt, &store, 1, a, 0), 100);
-    store.set(&rt, 1, a, 0, Value::Int(0));
-    assert!(rt; has_numbers(&rt, &store, 1, a, (0, 4)));
-    store.open_step(&rt, 1);
-    push_numbers(&rt, &mut store, 1, a, 4, 12);
-    assert_eq!(rt; store.reserved(), 68);
-    store.publish(&rt, rt.alloc(), 1)?;
-    assert!(rt; has_numbers(&rt, &store, 0, a, (0, 12)));
-    Ok(())
+    take_growth_back(&rt, rt.alloc(), paged(&rt, rt.alloc(), 2, 4)?)
 }
 
 /// The place of a key after the pairs of the numbers from 11 to 20 were dropped.
@@ -373,37 +400,40 @@ fn place_after(n: u32) -> Option<usize> {
 }
 
 /// A Dict that grew over several classes, with pairs dropped in the middle.
-#[test]
-fn pairs_are_dropped(rt: HostRuntime) -> Tested {
-    let mut store = paged(&rt, rt.alloc(), 2, 4)?;
-    let d = make(&rt, rt.alloc(), &mut store, 0, Kind::Dict, &[])?;
-    put_numbers(&rt, &mut store, 0, d, (0, 40), 500);
-    assert_eq!(rt; size(&rt, &store, 0, d), (80, 128, 2));
-    store.publish(&rt, rt.alloc(), 0)?;
+fn drop_pairs<S: SegStore>(rt: &impl Abort, alloc: Global, mut store: Bench<S>) -> Tested {
+    let d = make(rt, alloc, &mut store, 0, Kind::Dict, &[])?;
+    put_numbers(rt, &mut store, 0, d, (0, 40), 500);
+    assert_eq!(rt; size(rt, &store, 0, d), (80, 128, 2));
+    store.publish(rt, alloc, 0)?;
     assert_eq!(rt; store.reserved(), 2 + 4 + 508 + 254);
-    store.lock(&rt, 1, d);
+    store.lock(rt, 1, d);
     'drops: for i in 0..10 {
-        store.unpair(&rt, 1, d, 20 - i);
+        store.unpair(rt, 1, d, 20 - i);
     }
-    assert_eq!(rt; size(&rt, &store, 1, d), (60, 128, 2));
+    assert_eq!(rt; size(rt, &store, 1, d), (60, 128, 2));
     'keys: for n in 0..40u32 {
         let key = Value::Int(i64::from(n));
-        let found = store.find_key(&rt, 1, d, key);
+        let found = store.find_key(rt, 1, d, key);
         assert!(rt; found == place_after(n), "{n}");
-        assert!(rt; store.find_key(&rt, 0, d, key) == Some(n as usize), "{n}");
+        assert!(rt; store.find_key(rt, 0, d, key) == Some(n as usize), "{n}");
     }
-    put_numbers(&rt, &mut store, 1, d, (11, 12), 700);
-    assert_eq!(rt; number(&rt, &store, 1, d, 61), 711);
-    store.publish(&rt, rt.alloc(), 1)?;
-    assert!(rt; store.find_key(&rt, 0, d, Value::Int(11)) == Some(30));
-    assert!(rt; store.find_key(&rt, 0, d, Value::Int(21)) == Some(11));
+    put_numbers(rt, &mut store, 1, d, (11, 12), 700);
+    assert_eq!(rt; number(rt, &store, 1, d, 61), 711);
+    store.publish(rt, alloc, 1)?;
+    assert!(rt; store.find_key(rt, 0, d, Value::Int(11)) == Some(30));
+    assert!(rt; store.find_key(rt, 0, d, Value::Int(21)) == Some(11));
     Ok(())
 }
 
+#[test]
+fn pairs_are_dropped(rt: HostRuntime) -> Tested {
+    drop_pairs(&rt, rt.alloc(), paged(&rt, rt.alloc(), 2, 4)?)
+}
+
 /// The pair of a number has this key, and 500 more as its value.
-fn has_pair_of(
+fn has_pair_of<S: SegStore>(
     rt: &impl Abort,
-    store: &Bench<PagedStore>,
+    store: &Bench<S>,
     k: u8,
     d: Addr,
     place: u32,
@@ -415,34 +445,37 @@ fn has_pair_of(
 }
 
 /// A Dict whose body spans pages, with pairs dropped near its front.
-#[test]
-fn long_dict(rt: HostRuntime) -> Tested {
-    let mut store = paged(&rt, rt.alloc(), 2, 16)?;
-    let d = make(&rt, rt.alloc(), &mut store, 0, Kind::Dict, &[])?;
-    put_numbers(&rt, &mut store, 0, d, (0, 200), 500);
-    assert_eq!(rt; size(&rt, &store, 0, d), (400, 512, 2));
-    store.publish(&rt, rt.alloc(), 0)?;
-    store.lock(&rt, 1, d);
-    store.unpair(&rt, 1, d, 0);
-    store.unpair(&rt, 1, d, 60);
-    assert_eq!(rt; size(&rt, &store, 1, d), (396, 512, 2));
+fn drop_in_long_dict<S: SegStore>(rt: &impl Abort, alloc: Global, mut store: Bench<S>) -> Tested {
+    let d = make(rt, alloc, &mut store, 0, Kind::Dict, &[])?;
+    put_numbers(rt, &mut store, 0, d, (0, 200), 500);
+    assert_eq!(rt; size(rt, &store, 0, d), (400, 512, 2));
+    store.publish(rt, alloc, 0)?;
+    store.lock(rt, 1, d);
+    store.unpair(rt, 1, d, 0);
+    store.unpair(rt, 1, d, 60);
+    assert_eq!(rt; size(rt, &store, 1, d), (396, 512, 2));
     'pairs: for i in 0..198u32 {
         let key = if i < 60 { i + 1 } else { i + 2 };
-        assert!(rt; has_pair_of(&rt, &store, 1, d, i, key), "{i}");
-        assert!(rt; has_pair_of(&rt, &store, 0, d, i, i), "{i}");
+        assert!(rt; has_pair_of(rt, &store, 1, d, i, key), "{i}");
+        assert!(rt; has_pair_of(rt, &store, 0, d, i, i), "{i}");
     }
-    store.drop_changes(&rt, 1);
+    store.drop_changes(rt, 1);
     'again: for i in 0..200u32 {
-        assert!(rt; has_pair_of(&rt, &store, 1, d, i, i), "{i}");
+        assert!(rt; has_pair_of(rt, &store, 1, d, i, i), "{i}");
     }
     Ok(())
 }
 
+#[test]
+fn long_dict(rt: HostRuntime) -> Tested {
+    drop_in_long_dict(&rt, rt.alloc(), paged(&rt, rt.alloc(), 2, 16)?)
+}
+
 /// Each segment below 8 makes a cell, which holds its number, and publishes it.
-fn make_cells(
+fn make_cells<S: SegStore>(
     rt: &impl Abort,
     alloc: Global,
-    store: &mut Bench<PagedStore>,
+    store: &mut Bench<S>,
 ) -> Result<Vec<Addr>, Fail> {
     let mut cells = Vec::new(alloc);
     'segments: for k in 0..8u8 {
@@ -456,7 +489,13 @@ fn make_cells(
 }
 
 /// The number that a segment sees in another one's cell.
-fn cell_number(rt: &impl Abort, store: &Bench<PagedStore>, cells: &[Addr], k: u8, j: u8) -> i64 {
+fn cell_number<S: SegStore>(
+    rt: &impl Abort,
+    store: &Bench<S>,
+    cells: &[Addr],
+    k: u8,
+    j: u8,
+) -> i64 {
     match cells.get(j as usize) {
         Some(a) => number(rt, store, k, *a, 0),
         None => panic!(rt; "no cell"),
@@ -464,7 +503,7 @@ fn cell_number(rt: &impl Abort, store: &Bench<PagedStore>, cells: &[Addr], k: u8
 }
 
 /// A segment locks its cell, and adds 100 to its number.
-fn change_cell(rt: &impl Abort, store: &mut Bench<PagedStore>, cells: &[Addr], k: u8) {
+fn change_cell<S: SegStore>(rt: &impl Abort, store: &mut Bench<S>, cells: &[Addr], k: u8) {
     match cells.get(k as usize) {
         Some(a) => {
             store.lock(rt, k, *a);
@@ -475,31 +514,34 @@ fn change_cell(rt: &impl Abort, store: &mut Bench<PagedStore>, cells: &[Addr], k
 }
 
 /// Eight segments with a cell each in one page: each changes its own, and the even ones publish.
-#[test]
-fn eight_segments(rt: HostRuntime) -> Tested {
-    let mut store = paged(&rt, rt.alloc(), 8, 1)?;
-    let cells = make_cells(&rt, rt.alloc(), &mut store)?;
+fn change_eight_cells<S: SegStore>(rt: &impl Abort, alloc: Global, mut store: Bench<S>) -> Tested {
+    let cells = make_cells(rt, alloc, &mut store)?;
     'changes: for k in 0..8u8 {
-        change_cell(&rt, &mut store, &cells, k);
+        change_cell(rt, &mut store, &cells, k);
     }
     'looks: for k in 0..8u8 {
         'cells: for j in 0..8u8 {
             let more = if j == k { 100 } else { 0 };
-            assert_eq!(rt; cell_number(&rt, &store, &cells, k, j), more + i64::from(j));
+            assert_eq!(rt; cell_number(rt, &store, &cells, k, j), more + i64::from(j));
         }
     }
     'ends: for k in 0..8u8 {
         if k % 2 == 0 {
-            store.publish(&rt, rt.alloc(), k)?;
+            store.publish(rt, alloc, k)?;
         } else {
-            store.drop_changes(&rt, k);
+            store.drop_changes(rt, k);
         }
     }
     'later: for k in 0..8u8 {
         'cells: for j in 0..8u8 {
             let more = if j % 2 == 0 { 100 } else { 0 };
-            assert_eq!(rt; cell_number(&rt, &store, &cells, k, j), more + i64::from(j));
+            assert_eq!(rt; cell_number(rt, &store, &cells, k, j), more + i64::from(j));
         }
     }
     Ok(())
+}
+
+#[test]
+fn eight_segments(rt: HostRuntime) -> Tested {
+    change_eight_cells(&rt, rt.alloc(), paged(&rt, rt.alloc(), 8, 1)?)
 }

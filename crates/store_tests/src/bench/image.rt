@@ -1,0 +1,47 @@
+//! The image of a store under test, as it is looked at.
+ghost use Rattle.std.specs.Prelude.{◌≡◌};
+ghost use Rattle.py_data.specs.Heap.{Has, has_bytes, at, length_of};
+
+use super::Bench;
+use crate::kinds::has_bytes;
+use py_data::{Addr, Kind, Value};
+use seg_store::SegStore;
+use std::process::Abort;
+
+impl<S: SegStore> Bench<S> {
+    /// The length of a record of the image, and whether its kind has bytes.
+    fn peek_size(&self, rt: &impl Abort, a: Addr) -> (usize, bool)
+        ensures length { result.0 ≡ length_of (at (S.meaning self.now.store).image a.0) }
+        ensures bytes { result.1 ≡ has_bytes (at (S.meaning self.now.store).image a.0).kind }
+        ensures there { Has (S.meaning self.now.store).image a.0 }
+    {
+        assert!(rt; self.in_image(a));
+        (self.store.peek_len(a), has_bytes(self.store.peek_kind(a)))
+    }
+
+    pub fn peek_kind(&self, rt: &impl Abort, a: Addr) -> Kind {
+        assert!(rt; self.in_image(a));
+        self.store.peek_kind(a)
+    }
+
+    pub fn peek_len(&self, rt: &impl Abort, a: Addr) -> usize {
+        let (n, _) = self.peek_size(rt, a);
+        n
+    }
+
+    #[tactic(auto, using(crate::proofs::There::place_there))]
+    pub fn peek_val(&self, rt: &impl Abort, a: Addr, i: usize) -> Value {
+        let (n, text) = self.peek_size(rt, a);
+        assert!(rt; !text);
+        assert!(rt; i < n);
+        self.store.peek_val(a, i)
+    }
+
+    #[tactic(auto, using(crate::proofs::There::byte_within))]
+    pub fn peek_byte(&self, rt: &impl Abort, a: Addr, i: usize) -> u8 {
+        let (n, text) = self.peek_size(rt, a);
+        assert!(rt; text);
+        assert!(rt; i < n);
+        self.store.peek_byte(a, i)
+    }
+}
