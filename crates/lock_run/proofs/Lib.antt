@@ -1,4 +1,3 @@
-pub mod Back
 pub mod Naming
 pub mod Following
 pub mod Stepping

@@ -1,4 +1,3 @@
-pub mod Journal
 pub mod Space
 pub mod Given
 pub mod PlainState

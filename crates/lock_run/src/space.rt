@@ -6,7 +6,7 @@ ghost use Rattle.std.specs.BTreeMap as tree;
 ghost use Rattle.py_data.specs.Changes.{Allows};
 ghost use Rattle.py_data.specs.Heap.{put_at};
 ghost use Rattle.py_data.specs.Sense.{IfThere};
-ghost use Rattle.lock_run.specs.Journal.{CanRestore, IsChanged, IsUndoable, restore_at, undoable_prop};
+ghost use Rattle.py_data.specs.Journal.{CanRestore, IsChanged, IsUndoable, restore_at, undoable_prop};
 
 use py_data::{Change, Entry, NoMemory, Records, Undo};
 use std::alloc::Global;

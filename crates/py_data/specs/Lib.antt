@@ -7,6 +7,7 @@ pub mod Shape
 pub mod Made
 pub mod Changes
 pub mod Undo
+pub mod Journal
 pub mod Fault
 pub mod Closed
 pub mod Order

@@ -5,7 +5,7 @@ use Rattle.std.proofs.lemmas.List.{length-set}
 use Rattle.py_data.specs.Heap.{Rec, Heap, put_at, no_records}
 use Rattle.seg_store.specs.Meaning.{over, overlay}
 use Rattle.seg_store.specs.inner.Images.{stands, image_in, Reaches}
-use Rattle.seg_store.specs.inner.Journal.{restore_at}
+use Rattle.py_data.specs.Journal.{restore_at}
 use Rattle.seg_store.proofs.Sees.{same_heap}
 use Rattle.seg_store.proofs.Slices.{set_table}
 

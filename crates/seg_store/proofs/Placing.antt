@@ -11,7 +11,7 @@ use Rattle.py_data.specs.Heap.{Rec, Heap, put_at}
 use Rattle.py_data.specs.Sense.{IfThere}
 use Rattle.seg_store.specs.inner.Images.{image_in}
 use Rattle.seg_store.specs.Meaning.{overlay}
-use Rattle.seg_store.specs.inner.Journal.{IsChanged, restore_at}
+use Rattle.py_data.specs.Journal.{IsChanged, restore_at}
 use Rattle.seg_store.specs.inner.Placed.{Slot, record_at, found_at, records_in, IsPlaced, IsSlotChanged}
 use Rattle.seg_store.proofs.Moving.{IsMoved, moved_one, moved_all}
 use Rattle.seg_store.proofs.Sees.{same_heap, same_number, other_number}

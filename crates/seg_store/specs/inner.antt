@@ -3,7 +3,6 @@ pub mod Flags
 pub mod Hands
 pub mod Holding
 pub mod Images
-pub mod Journal
 pub mod Looks
 pub mod Placed
 pub mod Space

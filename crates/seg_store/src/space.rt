@@ -5,7 +5,7 @@ ghost use Rattle.py_data.specs.Changes.{Allows};
 ghost use Rattle.py_data.specs.Heap.{put_at, no_records};
 ghost use Rattle.py_data.specs.Sense.{IfThere};
 ghost use Rattle.seg_store.specs.Meaning.{overlay};
-ghost use Rattle.seg_store.specs.inner.Journal.{IsUndoable, undoable_prop};
+ghost use Rattle.py_data.specs.Journal.{IsUndoable, undoable_prop};
 ghost use Rattle.seg_store.specs.inner.Table.{table_heap};
 ghost use Rattle.seg_store.specs.inner.Images.{image_in, Reaches};
 

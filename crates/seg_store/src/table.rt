@@ -5,7 +5,7 @@ ghost use Rattle.py_data.specs.Heap.{put_at, no_records};
 ghost use Rattle.py_data.specs.Sense.{IfThere};
 ghost use Rattle.seg_store.specs.Meaning.{overlay};
 ghost use Rattle.seg_store.specs.inner.Images.{image_in, Reaches};
-ghost use Rattle.seg_store.specs.inner.Journal.{CanRestore, IsChanged, restore_at, restored};
+ghost use Rattle.py_data.specs.Journal.{CanRestore, IsChanged, restore_at, restored};
 ghost use Rattle.seg_store.specs.inner.Placed.{IsPlaced, IsSlotChanged};
 
 use py_data::{Change, Entry, NoMemory, Undo};

@@ -1,7 +1,7 @@
 -- What code and proofs say to each other: nothing public rests on it.
 -- The records that one segment of a store of maps holds, as heaps. States `docs/HEAP.md`, "The store of maps".
 use Rattle.py_data.specs.Heap.{Heap}
-use Rattle.seg_store.specs.inner.Journal.{taken_back}
+use Rattle.py_data.specs.Journal.{taken_back}
 use Rattle.seg_store.specs.inner.Table.{table_heap}
 use Rattle.seg_store.specs.declared.space.Space.{Space}
 

@@ -1,7 +1,7 @@
 use Rattle.std.proofs.Common.{rules}
 use Rattle.std.specs.Ordering.{nat_cmp}
 use Rattle.std.specs.BTreeMap as tree
-use Rattle.lock_run.proofs.Back.{noted_change}
+use Rattle.py_data.proofs.JournalLemmas.{noted_change}
 use Rattle.lock_run.proofs.space.Space.replace.Goals as goal
 
 pub invariant_of-self-2 : goal.invariant_of-self-2

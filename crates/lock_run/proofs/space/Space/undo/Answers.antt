@@ -1,8 +1,8 @@
 use Rattle.std.proofs.Common.{rules, sym, subst, ap, ◌∙◌}
 use Rattle.std.specs.Ordering.{nat_cmp}
 use Rattle.std.specs.BTreeMap as tree
-use Rattle.lock_run.specs.Journal.{taken_back, IsUndoable}
-use Rattle.lock_run.proofs.Back.{last_entry}
+use Rattle.py_data.specs.Journal.{taken_back, IsUndoable}
+use Rattle.py_data.proofs.JournalLemmas.{last_entry}
 use Rattle.lock_run.proofs.space.Space.undo.Goals as goal
 
 pub restore-requires : goal.restore-requires

@@ -1,6 +1,6 @@
 use Rattle.std.proofs.Common.{rules}
 use Rattle.seg_store.specs.inner.Table.{table_heap}
-use Rattle.seg_store.proofs.Back.{noted_made}
+use Rattle.py_data.proofs.JournalLemmas.{noted_made}
 use Rattle.seg_store.proofs.space.Space.add.Goals as goal
 
 pub invariant_of-self-2 : goal.invariant_of-self-2

@@ -1,7 +1,7 @@
 use Rattle.std.proofs.Common.{rules, sym, subst, ap, ◌∙◌}
 use Rattle.seg_store.specs.inner.Table.{table_heap}
-use Rattle.seg_store.specs.inner.Journal.{taken_back, IsUndoable}
-use Rattle.seg_store.proofs.Back.{last_entry}
+use Rattle.py_data.specs.Journal.{taken_back, IsUndoable}
+use Rattle.py_data.proofs.JournalLemmas.{last_entry}
 use Rattle.seg_store.proofs.space.Space.undo.Goals as goal
 
 pub restore-requires : goal.restore-requires

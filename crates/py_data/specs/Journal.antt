@@ -1,4 +1,5 @@
--- A journal of the changes of a step, by which they are taken back. States `docs/HEAP.md`, "The plain view".
+-- A journal of the changes of a step, by which they are taken back. States `docs/HEAP.md`, "The plain view" and "The
+-- store of maps".
 use Rattle.std.specs.Prelude.{◌≡◌, ℕ, List, [], ◌∷◌, Option, Some, None, option_map, cond, eqb}
 use Rattle.std.specs.Coded.{×_prop, Unit-prop, le_prop}
 use Rattle.py_data.specs.declared.change.Change.{Change}
@@ -21,10 +22,10 @@ abbrev pub taken_back : List (ℕ × Option Undo) → Heap → Heap
 taken_back [] h = h
 taken_back (e ∷ es) h = restore_at (taken_back es h) e.0 e.1
 
--- an entry can be taken back without memory
+-- an entry can be taken back without memory: the record is there
 abbrev pub CanRestore : Option Undo → Option Rec → Type 0
-CanRestore None o = Unit {0}
-CanRestore (Some u) None = ⊥
+CanRestore u None = ⊥
+CanRestore None (Some r) = Unit {0}
 CanRestore (Some u) (Some r) = CanTakeBack u r
 
 -- so can all entries, the last of them first
@@ -39,8 +40,8 @@ take_back_prop (Extend vs) r = ×_prop le_prop le_prop
 take_back_prop (Insert k key x) r = ×_prop le_prop (×_prop le_prop le_prop)
 
 restore_prop : (u : Option Undo) (o : Option Rec) → IsProp (CanRestore u o)
-restore_prop None o = Unit-prop
-restore_prop (Some u) None = λ p q. absurd p
+restore_prop u None = λ p q. absurd p
+restore_prop None (Some r) = Unit-prop
 restore_prop (Some u) (Some r) = take_back_prop u r
 
 -- there is at most one proof of that
