@@ -1,6 +1,5 @@
--- What the measures of operations know of their view and of the values that they work on. States `docs/HEAP.md`, "Order
--- of a
--- heap".
+-- What the measures of operations know of their view and of the values that they work on.
+-- States `docs/HEAP.md`, "Order of a heap".
 use Rattle.std.specs.Prelude.{◌≡◌, ℕ, false, List}
 use Rattle.py_data.specs.declared.value.Value.{Value}
 use Rattle.py_data.specs.Every.{Every}

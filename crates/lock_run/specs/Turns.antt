@@ -1,6 +1,5 @@
--- What a turn of a LockRun does: a turn of the machine, or why it was cut and what stays. States `docs/HEAP.md`, "Turns
--- and
--- runs".
+-- What a turn of a LockRun does: a turn of the machine, or why it was cut and what stays.
+-- States `docs/HEAP.md`, "Turns and runs".
 use Rattle.std.specs.Prelude.{◌≡◌, ◌≢◌, ◌⊎◌, ℕ, ◌≤◌, ◌<◌, List, [], ◌∷◌, ◌++◌, Option, Some, None, slice_get, slice_set, false, suc}
 use Rattle.py_data.specs.declared.stop.Out.TheVariants.{Output, ErrorOutput}
 use Rattle.py_data.specs.Row.{Row, Do, Call, Reply, Make, Put, Take}

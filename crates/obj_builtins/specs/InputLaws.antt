@@ -1,5 +1,5 @@
--- What `raw_input` writes, takes and answers, in the words in which `src/call_laws.rt` ensures it. States
--- `docs/LANGUAGE.md`, "Reading the input".
+-- What `raw_input` writes, takes and answers, in the words in which `src/call_laws.rt` ensures it.
+-- States `docs/LANGUAGE.md`, "Reading the input".
 use Rattle.std.specs.Prelude.{◌≡◌, ℕ, false, List, [], ◌∷◌, ◌++◌, Some}
 use Rattle.std.specs.Io.BufRead.{strip_last}
 use Rattle.py_base.specs.declared.kind.Kind.TheVariants.{Str}

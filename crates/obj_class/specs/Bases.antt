@@ -1,5 +1,5 @@
--- The way along the bases of classes, and whether a class is another one or has it among its bases. States
--- `docs/LANGUAGE.md`, "Classes and instances".
+-- The way along the bases of classes, and whether a class is another one or has it among its bases.
+-- States `docs/LANGUAGE.md`, "Classes and instances".
 use Rattle.std.specs.Prelude.{◌≡◌, ℕ, zero, suc, Bool, true, false, cond, eqb, Result, Ok, Err}
 use Rattle.py_data.specs.declared.value.Value.{Value}
 use Rattle.py_data.specs.declared.value.Value.TheVariants.{None as NoneValue, Ref}

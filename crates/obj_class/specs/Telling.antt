@@ -1,5 +1,5 @@
--- The texts of values, those of exceptions among them: what is meant, and the row, look by look. States
--- `docs/LANGUAGE.md`, "Texts of exceptions", and `docs/HEAP.md`, "Texts".
+-- The texts of values, those of exceptions among them: what is meant, and the row, look by look.
+-- States `docs/LANGUAGE.md`, "Texts of exceptions", and `docs/HEAP.md`, "Texts".
 use Rattle.std.specs.Prelude.{ℕ, zero, suc, ◌+◌, ◌*◌, ◌/◌, ◌==◌, Bool, true, false, cond, codes, List, [], ◌∷◌, Option, Some, None}
 use Rattle.std.specs.Str.{bytes_eq}
 use Rattle.py_base.specs.declared.kind.Kind.{Kind}

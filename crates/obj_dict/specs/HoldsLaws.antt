@@ -1,6 +1,6 @@
 -- Over each heap in order each operation on a dictionary holds; and no record is longer in its course than before it or
--- at its
--- end. States `docs/LANGUAGE.md`, "Dictionaries", and `docs/HEAP.md`, "Rows that hold".
+-- at its end.
+-- States `docs/LANGUAGE.md`, "Dictionaries", and `docs/HEAP.md`, "Rows that hold".
 use Rattle.std.specs.Prelude.{◌≡◌, ℕ, false}
 use Rattle.py_base.specs.declared.kind.Kind.TheVariants.{Dict}
 use Rattle.py_data.specs.declared.value.Value.{Value}

@@ -1,5 +1,5 @@
--- What the rows of equality, order, truth and texts share: levels, and how two records are compared. States
--- `docs/HEAP.md`, "Equality and order".
+-- What the rows of equality, order, truth and texts share: levels, and how two records are compared.
+-- States `docs/HEAP.md`, "Equality and order".
 use Rattle.std.specs.Prelude.{ℕ, zero, suc, Option, Some, None}
 use Rattle.py_base.specs.declared.kind.Kind.{Kind}
 use Rattle.py_base.specs.declared.kind.Kind.TheVariants.{Str, Tuple, List as ListKind, Dict, Method}

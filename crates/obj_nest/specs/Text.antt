@@ -1,5 +1,5 @@
--- The texts of values, as `repr` and `str` write them: the row, look by look, which writes behind a text. States
--- `docs/HEAP.md`, "Texts".
+-- The texts of values, as `repr` and `str` write them: the row, look by look, which writes behind a text.
+-- States `docs/HEAP.md`, "Texts".
 use Rattle.std.specs.Prelude.{ℕ, ◌+◌, ◌*◌, ◌/◌, Bool, true, false, cond, List, [], ◌++◌, Option, codes, ◌==◌, unwrap_or, slice_get}
 use Rattle.std.specs.Fmt.{signed_decimal}
 use Rattle.py_base.specs.declared.kind.Kind.{Kind}

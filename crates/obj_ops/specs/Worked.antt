@@ -1,5 +1,5 @@
--- Operators worked by hand. Expected values are Python 2.7's, but where a rule is marked (own). States
--- `docs/LANGUAGE.md`, "Arithmetic", "Operators on sequences" and "The % operator".
+-- Operators worked by hand. Expected values are Python 2.7's, but where a rule is marked (own).
+-- States `docs/LANGUAGE.md`, "Arithmetic", "Operators on sequences" and "The % operator".
 use Rattle.std.specs.Prelude.{◌≡◌, pos, negsuc, true, false, None, Some, [], ◌∷◌, refl, codes}
 use Rattle.py_base.specs.Numbers.{binary_number, unary_number, compare_number}
 use Rattle.py_base.specs.declared.kind.Kind.TheVariants.{Tuple, List as ListKind}

@@ -1,7 +1,6 @@
 -- Over each heap in order each operation on a list, a tuple or an iterator holds; and no record is longer in its course
--- than
--- before it or at its end. States `docs/LANGUAGE.md`, "Lists and tuples" and "Iteration", and `docs/HEAP.md`, "Rows
--- that hold".
+-- than before it or at its end.
+-- States `docs/LANGUAGE.md`, "Lists and tuples" and "Iteration", and `docs/HEAP.md`, "Rows that hold".
 use Rattle.std.specs.Prelude.{◌≡◌, ◌≤◌, ℕ, ℤ, false, List, length, Option}
 use Rattle.py_base.specs.declared.kind.Kind.TheVariants.{List as ListKind, Iter}
 use Rattle.py_data.specs.declared.value.Value.{Value}

@@ -1,6 +1,5 @@
--- What the operations on lists answer and leave, in words of the list alone, and what they raise. States
--- `docs/LANGUAGE.md`,
--- "Lists and tuples" and "Iteration".
+-- What the operations on lists answer and leave, in words of the list alone, and what they raise.
+-- States `docs/LANGUAGE.md`, "Lists and tuples" and "Iteration".
 use Rattle.std.specs.Prelude.{◌≡◌, ◌≢◌, ℕ, ℤ, ◌+◌, ◌/◌, ◌<◌, ◌≤◌, List, [], ◌∷◌, ◌++◌, length, take, drop, reverse, slice_set, Option, Some, None}
 use Rattle.py_base.specs.declared.kind.Kind.TheVariants.{Dict, Iter}
 use Rattle.py_data.specs.declared.value.Value.{Value}

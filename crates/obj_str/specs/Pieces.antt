@@ -1,6 +1,5 @@
--- Parts of a text: where one stands, cutting at it, joining and replacing, as functions on bytes. States
--- `docs/LANGUAGE.md`,
--- "Methods of strings".
+-- Parts of a text: where one stands, cutting at it, joining and replacing, as functions on bytes.
+-- States `docs/LANGUAGE.md`, "Methods of strings".
 use Rattle.std.specs.Prelude.{ℕ, zero, suc, ◌+◌, ◌-◌, Bool, true, false, cond, ◌&&◌, ◌||◌, ◌==◌, leb, List, [], ◌∷◌, ◌++◌, length, drop, filter, map, Option, Some, None, option_map}
 use Rattle.std.specs.Char.{to_ascii_uppercase, to_ascii_lowercase}
 use Rattle.std.specs.Str.{bytes_eq}

@@ -1,5 +1,5 @@
--- The rows that lead to a thread's start: what it is to call, and whether there may be one more. States
--- `docs/LANGUAGE.md`, "Locks and threads".
+-- The rows that lead to a thread's start: what it is to call, and whether there may be one more.
+-- States `docs/LANGUAGE.md`, "Locks and threads".
 use Rattle.std.specs.Prelude.{ℕ, pos, ◌==◌, Bool, true, false, cond, codes, List, [], ◌∷◌, length, Option, Some, None, int_lt}
 use Rattle.py_base.specs.declared.kind.Kind.{Kind}
 use Rattle.py_base.specs.declared.kind.Kind.TheVariants.{Tuple, Function, Method}

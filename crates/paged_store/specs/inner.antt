@@ -1,4 +1,4 @@
--- What code and proofs say to each other. Nothing public rests on it.
+-- What code and proofs say to each other: nothing public rests on it.
 pub mod Formed
 pub mod State
 pub mod Counted

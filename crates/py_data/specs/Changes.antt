@@ -1,6 +1,5 @@
--- What a change makes of a record, and when it may be made; and records within the limit of length. States
--- `docs/HEAP.md`,
--- "Records" and "Views".
+-- What a change makes of a record, and when it may be made; and records within the limit of length.
+-- States `docs/HEAP.md`, "Records" and "Views".
 use Rattle.std.specs.Prelude.{◌≡◌, ℕ, ◌+◌, ◌*◌, ◌<◌, ◌≤◌, Bool, true, false, length, Some, None}
 use Rattle.py_data.specs.declared.value.Value.{Value}
 use Rattle.py_base.specs.declared.kind.Kind.{Kind}

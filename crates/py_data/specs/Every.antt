@@ -1,6 +1,5 @@
--- A property of each element of a list, by recursion on the list. States `docs/HEAP.md`, "Records": what is said there
--- of each
--- value of a record is said by it.
+-- A property of each element of a list, by recursion on the list.
+-- States `docs/HEAP.md`, "Records": what is said there of each value of a record is said by it.
 use Rattle.std.specs.Prelude.{List, [], ◌∷◌}
 
 -- each element has the property

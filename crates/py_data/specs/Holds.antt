@@ -1,6 +1,6 @@
 -- Rows that hold: each call has what it needs and leaves a heap in order, whatever the calls before it answered, and
--- the answer
--- has a property. States `docs/HEAP.md`, "Rows that hold".
+-- the answer has a property.
+-- States `docs/HEAP.md`, "Rows that hold".
 use Rattle.std.specs.Prelude.{◌≡◌, ℕ, false, Some, None}
 use Rattle.py_data.specs.Heap.{Rec, Heap}
 use Rattle.py_data.specs.Changes.{after}

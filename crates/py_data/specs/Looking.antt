@@ -1,6 +1,6 @@
 -- Rows that only look, over one heap: each look has what it needs, and what the row answers has a property; and the
--- rows that
--- loops have. States `docs/HEAP.md`, "Rows that hold".
+-- rows that loops have.
+-- States `docs/HEAP.md`, "Rows that hold".
 use Rattle.std.specs.Prelude.{◌≡◌, ℕ, zero, suc, ◌+◌, pos, Bool, false, cond, List, [], ◌∷◌, length, Result, Ok, Err, refl}
 use Rattle.py_base.specs.declared.kind.Kind.{Kind}
 use Rattle.py_base.specs.declared.kind.Kind.TheVariants.{Tuple}

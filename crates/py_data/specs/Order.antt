@@ -1,6 +1,6 @@
 -- When a heap is in order: each of its records is closed in it and within the limit of length, and is as a client asks
--- it to
--- be; and what one heap keeps of another. States `docs/HEAP.md`, "Order of a heap".
+-- it to be; and what one heap keeps of another.
+-- States `docs/HEAP.md`, "Order of a heap".
 use Rattle.std.specs.Prelude.{◌≡◌, ℕ, zero, suc, false, List, Some}
 use Rattle.py_data.specs.declared.change.Change.{Change}
 use Rattle.py_data.specs.declared.change.Change.TheVariants.{Set, Push, Pair}

@@ -1,6 +1,5 @@
--- Laws of heaps in order and of rows that hold, in the words in which `src/laws.rt` ensures them. States
--- `docs/HEAP.md`, "Order
--- of a heap" and "Rows that hold".
+-- Laws of heaps in order and of rows that hold, in the words in which `src/laws.rt` ensures them.
+-- States `docs/HEAP.md`, "Order of a heap" and "Rows that hold".
 use Rattle.std.specs.Prelude.{◌≡◌, ℕ, Bool, false, List, ◌++◌}
 use Rattle.py_data.specs.declared.change.Change.{Change}
 use Rattle.py_data.specs.Every.{Every}

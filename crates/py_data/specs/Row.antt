@@ -1,6 +1,6 @@
 -- Rows: what an object operation, an instruction or a step does, as a small program over the calls of a view. S is the
--- state
--- of a thread that a row may start, A the answer. States `docs/HEAP.md`, "Rows".
+-- state of a thread that a row may start, A the answer.
+-- States `docs/HEAP.md`, "Rows".
 use Rattle.std.specs.Prelude.{ℕ, List, Bool, Option}
 use Rattle.py_data.specs.declared.value.Value.{Value}
 use Rattle.py_data.specs.declared.stop.Out.{Out}

@@ -1,6 +1,6 @@
 -- Rows in whose course no record is longer than it was before them or is at their end, and which ask whether the output
--- is in mid
--- line only where they write next. States `docs/HEAP.md`, "Rows that hold".
+-- is in mid line only where they write next.
+-- States `docs/HEAP.md`, "Rows that hold".
 use Rattle.std.specs.Prelude.{◌≡◌, ◌⊎◌, ℕ, ◌≤◌, Bool, true, false, ◌||◌, ◌&&◌, [], ◌∷◌, length, Some, refl}
 use Rattle.py_data.specs.declared.change.Change.{Change}
 use Rattle.py_data.specs.declared.change.Change.TheVariants.{Push, Cut, Pair, Unpair}

@@ -1,6 +1,5 @@
--- Laws of what a segment sees and holds, in the words in which `src/laws.rt` ensures them. States `docs/HEAP.md`, "The
--- store
--- of segments".
+-- Laws of what a segment sees and holds, in the words in which `src/laws.rt` ensures them.
+-- States `docs/HEAP.md`, "The store of segments".
 use Rattle.std.specs.Prelude.{◌≡◌, ◌≢◌, ℕ}
 use Rattle.py_data.specs.Heap.{Rec, Has, at, put_at}
 use Rattle.py_data.specs.Sight.{with_mark}

@@ -1,6 +1,5 @@
--- What a store needs for its calls, why it refuses them, and what always holds of it. States `docs/HEAP.md`, "The store
--- of
--- segments".
+-- What a store needs for its calls, why it refuses them, and what always holds of it.
+-- States `docs/HEAP.md`, "The store of segments".
 use Rattle.std.specs.Prelude.{◌≡◌, ◌≢◌, ℕ, ◌+◌, ◌<◌, ◌≤◌, Bool, true, false, ◌||◌, List, [], ◌++◌, length, Option, Some, None, is_some, IfSome}
 use Rattle.py_data.specs.declared.record.TheConstants.{LENGTH_LIMIT}
 use Rattle.py_base.specs.declared.kind.Kind.{Kind}

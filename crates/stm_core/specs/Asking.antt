@@ -1,6 +1,5 @@
--- The calls that a step comes to, and what it looks at, locks and dooms on its way. States `docs/HEAP.md`, "What a step
--- asks
--- for".
+-- The calls that a step comes to, and what it looks at, locks and dooms on its way.
+-- States `docs/HEAP.md`, "What a step asks for".
 use Rattle.std.specs.Prelude.{◌≡◌, ◌⊎◌, ℕ, true, false, List, Some, None, All}
 use Rattle.py_data.specs.declared.stop.Conflict.{Conflict}
 use Rattle.py_data.specs.Heap.{Heap, Marks}

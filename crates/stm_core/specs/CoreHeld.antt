@@ -1,6 +1,5 @@
--- What a core is to its callers: the states for which it stands, what stays the same, and when it is good. States
--- `docs/HEAP.md`, "The
--- transactional core" and "A good core".
+-- What a core is to its callers: the states for which it stands, what stays the same, and when it is good.
+-- States `docs/HEAP.md`, "The transactional core" and "A good core".
 use Rattle.std.specs.Prelude.{◌≡◌, ℕ, ◌+◌, ◌<◌, ◌≤◌, List, Option, Some}
 use Rattle.py_data.specs.Heap.{Heap}
 use Rattle.stm_io.specs.Outside.{SourceState, SinkState}

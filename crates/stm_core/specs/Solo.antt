@@ -1,6 +1,5 @@
--- What a call of `solo` answers, and what comes of a solo transaction whose next step is cut. States `docs/HEAP.md`,
--- "Solo
--- transactions".
+-- What a call of `solo` answers, and what comes of a solo transaction whose next step is cut.
+-- States `docs/HEAP.md`, "Solo transactions".
 use Rattle.std.specs.Prelude.{◌≡◌, ◌≢◌, ℕ, zero, suc, true, length, Some, None, Result, Ok, Err}
 use Rattle.std.specs.List.{range_with_len}
 use Rattle.py_data.specs.World.{World}

@@ -1,6 +1,5 @@
--- How a core stands: what a segment has in hand, which thread is next, and how the run stands. States `docs/HEAP.md`,
--- "How a
--- core stands".
+-- How a core stands: what a segment has in hand, which thread is next, and how the run stands.
+-- States `docs/HEAP.md`, "How a core stands".
 use Rattle.std.specs.Prelude.{◌≡◌, ◌⊎◌, ℕ, ◌<◌, ◌≤◌, Bool, true, cond, ◌&&◌, ◌||◌, ltb, Option, Some, None}
 use Rattle.lock_run.specs.Prog.{Prog}
 use Rattle.lock_run.specs.RunState.{SomeLives, IsDone, IsStuck, IsSpent, IsRunning}

@@ -1,5 +1,5 @@
--- What running a piece gives: the piece, and the changes that lead from its loan to what it left. States
--- `docs/HEAP.md`, "Pieces".
+-- What running a piece gives: the piece, and the changes that lead from its loan to what it left.
+-- States `docs/HEAP.md`, "Pieces".
 use Rattle.std.specs.Prelude.{◌≡◌}
 use Rattle.lock_run.specs.declared.client.Life.TheVariants.{Lives}
 use Rattle.lock_run.specs.Prog.{Prog}

@@ -1,7 +1,6 @@
--- What code and proofs say to each other: nothing public rests on it.
--- A transaction that was taken out of its hand, and what came of it: the states of the core that store, books and
--- devices stand for
--- before and after. States `docs/HEAP.md`, "Advance".
+-- What code and proofs say to each other: nothing public rests on it. A transaction that was taken out of its hand, and
+-- what came of it: the states of the core that store, books and devices stand for before and after.
+-- States `docs/HEAP.md`, "Advance".
 use Rattle.std.specs.Prelude.{◌≡◌, ◌⊎◌, ℕ, true, false, List, Option, None}
 use Rattle.lock_run.specs.Prog.{Prog}
 use Rattle.seg_store.specs.Meaning.{Meaning}

@@ -1,6 +1,5 @@
--- A core with a transaction that was taken out of its segment. What code and proofs say to each other: nothing public
--- rests
--- on it.
+-- A core with a transaction that was taken out of its segment.
+-- What code and proofs say to each other: nothing public rests on it.
 use Rattle.std.specs.Prelude.{ℕ, Option, List}
 use Rattle.py_data.specs.Heap.{Heap}
 use Rattle.lock_run.specs.Prog.{Prog}

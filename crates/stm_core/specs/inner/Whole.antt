@@ -1,7 +1,6 @@
--- What code and proofs say to each other: nothing public rests on it.
--- Store and books fit together, with a transaction out of its hand and with all in their hands. States `docs/HEAP.md`,
--- "The
--- transactional core".
+-- What code and proofs say to each other: nothing public rests on it. Store and books fit together, with a transaction
+-- out of its hand and with all in their hands.
+-- States `docs/HEAP.md`, "The transactional core".
 use Rattle.std.specs.Prelude.{◌≡◌, ◌≢◌, ◌⊎◌, ℕ, ◌+◌, ◌<◌, ◌≤◌, true, false, List, Option, length, Some, slice_get, suc}
 use Rattle.std.specs.List.{sum_by}
 use Rattle.py_data.specs.declared.stop.Side.{Side}

@@ -1,6 +1,5 @@
 -- Nothing here is to be believed: these are the two laws that the lock asks for, proved. A core has grown from itself,
--- and what has
--- grown in two steps has grown in one.
+-- and what has grown in two steps has grown in one.
 use Rattle.std.specs.Prelude.{ℕ, [], ◌++◌, Option}
 use Rattle.std.proofs.Common.{sym, ◌∙◌, ap, append_assoc, append-nil}
 use Rattle.stm_io.specs.Outside.{SourceState, SinkState}
