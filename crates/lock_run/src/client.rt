@@ -67,7 +67,8 @@ pub trait Client {
         ensures state { OnErr result (s.new ≡ s.old) };
 
     /// One step of a thread that lives, if its row asks nothing and the thread lives on: whether it was done. It takes
-    /// no view, so it costs less than `step`, and may leave any step to that: what wasn't done left the state as it was.
+    /// no view, so it costs less than `step`, and may leave any step to that: what wasn't done left the state as it
+    /// was.
     fn step_pure(&self, s: &mut Self::State) -> bool
         requires lives { (prog self.now).life s.old ≡ Lives }
         ensures done { result ≡ true → (prog self.now).row s.old ≡ Ret (Done, s.new) }

@@ -136,8 +136,8 @@ fn best_by<S, V: View<S>>(
     }
 }
 
-/// `min` and `max`: the best of two arguments or more, or of the items of one; of equal ones the first. ValueError where
-/// there is none.
+/// `min` and `max`: the best of two arguments or more, or of the items of one; of equal ones the first. ValueError
+/// where there is none.
 #[tactic(auto, using(py_data::proofs::Rows::row_steps), unfolding(crate::specs::Best::best_row))]
 pub fn best_value<S, V: View<S>>(
     alloc: Global,

@@ -9,9 +9,9 @@ use obj_str::holds_law as strings_law;
 use obj_threads::{holds_law as threads_law, quiet_law};
 use py_data::Demands;
 
-/// Over each heap in order, with its list of roots, an object that is there and items for arguments, the call of a builtin
-/// may be begun, answers what it should, and leaves a heap in order; and in its course no record is longer than before it
-/// or at its end.
+/// Over each heap in order, with its list of roots, an object that is there and items for arguments, the call of a
+/// builtin may be begun, answers what it should, and leaves a heap in order; and in its course no record is longer than
+/// before it or at its end.
 pub fn call_law<S, D: Demands<S>>()
     ensures holds { CallHolds D.rules D.stands }
     ensures steady { CallSteady S }
@@ -29,8 +29,8 @@ pub fn call_quiet_law<S>()
     quiet_law::<S>();
 }
 
-/// `raw_input` takes the next line of the input and answers it without its newline. A prompt is written before, once and
-/// as it is, and the output isn't in the middle of a line then.
+/// `raw_input` takes the next line of the input and answers it without its newline. A prompt is written before, once
+/// and as it is, and the output isn't in the middle of a line then.
 pub fn input_law<S>()
     ensures { InputLaw S }
 {}

@@ -349,8 +349,8 @@ fn call_other<S, V: View<S>>(
 }
 
 /// The call of the builtin of number `b`: a function, a method, or what a module has. `roots` is the address of the
-/// program's list of roots, `me` that of the Thread record of the thread that calls, if it has one, `own` the object of a
-/// method, and Unset where there is none. `keys` are names and values by turns; each name is the address of a string.
+/// program's list of roots, `me` that of the Thread record of the thread that calls, if it has one, `own` the object of
+/// a method, and Unset where there is none. `keys` are names and values by turns; each name is the address of a string.
 ///
 /// What is raised is tested in this order: TypeError, `unsupported operand`, for a method of a value of another kind;
 /// TypeError, `wrong arguments`, for keywords where none may stand; and then what the builtin itself tests. A call that

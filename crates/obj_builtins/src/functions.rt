@@ -46,12 +46,12 @@ fn later_function<S, V: View<S>>(
     }
 }
 
-/// The builtin function of a number, of these arguments: `len`, `range`, `xrange`, `str`, `repr`, `int`, `bool`, `list`,
-/// `tuple`, `dict`, `isinstance`, `ord`, `chr`, `abs`, `min`, `max`, `sum` or `sorted`. `roots` is the address of the list of
-/// the classes that every program has. What is raised is tested in this order: TypeError, `wrong arguments`, for the count of
-/// arguments and then for their types (`not iterable` where one has to be gone through); then what the function says of
-/// values; MemoryError for a record that would be longer than `LENGTH_LIMIT`. TypeError, `unsupported operand`, for any other
-/// number.
+/// The builtin function of a number, of these arguments: `len`, `range`, `xrange`, `str`, `repr`, `int`, `bool`,
+/// `list`, `tuple`, `dict`, `isinstance`, `ord`, `chr`, `abs`, `min`, `max`, `sum` or `sorted`. `roots` is the address
+/// of the list of the classes that every program has. What is raised is tested in this order: TypeError, `wrong
+/// arguments`, for the count of arguments and then for their types (`not iterable` where one has to be gone through);
+/// then what the function says of values; MemoryError for a record that would be longer than `LENGTH_LIMIT`. TypeError,
+/// `unsupported operand`, for any other number.
 #[tactic(auto, using(py_data::proofs::Rows::row_steps), unfolding(crate::specs::Functions::function_row))]
 pub fn function<S, V: View<S>>(
     alloc: Global,

@@ -77,10 +77,10 @@ fn ask<S, V: View<S>>(alloc: Global, v: &mut V, roots: Addr, x: Value) -> Result
     }
 }
 
-/// `raw_input()` and `raw_input(p)`: a new string of the next line of the input, without its newline. The text of `p` is
-/// written first, as it is; where it raises, nothing is written or taken. EOFError at the end of the input; TypeError,
-/// `wrong arguments`, for two arguments or more. A line of more than 65,536 bytes is taken in pieces of so many; Python 2.7
-/// takes it whole.
+/// `raw_input()` and `raw_input(p)`: a new string of the next line of the input, without its newline. The text of `p`
+/// is written first, as it is; where it raises, nothing is written or taken. EOFError at the end of the input;
+/// TypeError, `wrong arguments`, for two arguments or more. A line of more than 65,536 bytes is taken in pieces of so
+/// many; Python 2.7 takes it whole.
 #[tactic(auto, using(py_data::proofs::Rows::row_steps), unfolding(crate::specs::Input::input_row))]
 pub fn input<S, V: View<S>>(
     alloc: Global,

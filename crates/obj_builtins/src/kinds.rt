@@ -385,8 +385,8 @@ fn told_by<S, V: View<S>>(
     told_of(alloc, v, roots, x, f)
 }
 
-/// `isinstance`: whether a value is of a class, of a type among the builtins, or of one of a tuple of these. All that is
-/// asked for is tested first: TypeError, `wrong arguments`, where one is neither.
+/// `isinstance`: whether a value is of a class, of a type among the builtins, or of one of a tuple of these. All that
+/// is asked for is tested first: TypeError, `wrong arguments`, where one is neither.
 #[tactic(auto, using(py_data::proofs::Rows::row_steps), unfolding(crate::specs::Kinds::isinstance_row))]
 pub fn isinstance<S, V: View<S>>(
     alloc: Global,

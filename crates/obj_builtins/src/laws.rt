@@ -1,5 +1,5 @@
-//! What the builtin functions do, as laws: a call of such a function does nothing, and gives its caller's proof the facts of
-//! its clauses.
+//! What the builtin functions do, as laws: a call of such a function does nothing, and gives its caller's proof the
+//! facts of its clauses.
 ghost use Rattle.obj_builtins.specs.HoldsLaws.{FunctionsHold, FunctionsSteady};
 ghost use Rattle.obj_builtins.specs.Laws.{BestLaw, InstanceLaw, IntLaw, RangesLaw, SumLaw};
 
@@ -30,8 +30,9 @@ pub fn instance_law<S, D: Demands<S>>()
     ensures { InstanceLaw S D.rules }
 {}
 
-/// Over each heap in order, with its list of roots and with items of it as arguments, each function may be begun, answers an
-/// item or an exception, and leaves a heap in order; and in its course no record is longer than before it or at its end.
+/// Over each heap in order, with its list of roots and with items of it as arguments, each function may be begun,
+/// answers an item or an exception, and leaves a heap in order; and in its course no record is longer than before it or
+/// at its end.
 pub fn holds_law<S, D: Demands<S>>()
     ensures holds { FunctionsHold D.rules D.stands }
     ensures steady { FunctionsSteady S }

@@ -103,7 +103,8 @@ fn is_numeral(bytes: &[u8]) -> bool
 
 /// The number that digits write; none, where it is above `MOST`.
 fn value_of(digits: &[u8]) -> Option<u64>
-    ensures { MatchOption result (9_223_372_036_854_775_808 < literals.value_after 0 digits.now) (λ n. (n ≡ literals.value_after 0 digits.now) × (n ≤ 9_223_372_036_854_775_808)) }
+    ensures { MatchOption result (9_223_372_036_854_775_808 < literals.value_after 0 digits.now)
+        (λ n. (n ≡ literals.value_after 0 digits.now) × (n ≤ 9_223_372_036_854_775_808)) }
 {
     let mut value: u128 = 0;
     let mut rest = digits;
@@ -187,8 +188,8 @@ fn stripped_number(alloc: Global, text: &[u8], stripped: &[u8]) -> Result<Got<Va
     }
 }
 
-/// The number that a text writes: blanks, a sign or none, one digit or more, blanks. ValueError, with the text's `repr`,
-/// for any other; OverflowError where 64 bits don't hold the number.
+/// The number that a text writes: blanks, a sign or none, one digit or more, blanks. ValueError, with the text's
+/// `repr`, for any other; OverflowError where 64 bits don't hold the number.
 pub fn text_number(alloc: Global, text: &[u8]) -> Result<Got<Value>, Stop>
     ensures { MatchResult result (λ g. g ≡ literals.text_number text.now) (λ e. e ≡ OutOfMemory) }
 {

@@ -84,8 +84,8 @@ fn sum_alone<S, V: View<S>>(alloc: Global, v: &mut V, x: Value) -> Result<Got<Va
     }
 }
 
-/// `sum`: 0 and each item of a value, added from the left. TypeError for an item that is no number, OverflowError where 64
-/// bits don't hold a sum so far.
+/// `sum`: 0 and each item of a value, added from the left. TypeError for an item that is no number, OverflowError where
+/// 64 bits don't hold a sum so far.
 #[tactic(auto, using(py_data::proofs::Rows::row_steps), unfolding(crate::specs::Sums::sum_row))]
 pub fn sum<S, V: View<S>>(alloc: Global, v: &mut V, x: Option<Value>) -> Result<Got<Value>, Stop>
     requires live { IsLive V.sense v.old }

@@ -10,8 +10,8 @@ use obj_str::{bytes_of, make_str};
 use py_data::{Addr, Got, Stop, Value, View};
 use std::alloc::Global;
 
-/// A new string of a value's text, as it stands within others (`quoted`) or by itself. MemoryError where it is longer than
-/// `LENGTH_LIMIT`.
+/// A new string of a value's text, as it stands within others (`quoted`) or by itself. MemoryError where it is longer
+/// than `LENGTH_LIMIT`.
 #[tactic(auto, using(py_data::proofs::Rows::row_steps, py_data::proofs::Steps::call_steps), unfolding(crate::specs::Texts::written_row))]
 fn write<S, V: View<S>>(
     alloc: Global,

@@ -352,8 +352,8 @@ fn part_of<S, V: View<S>>(
     }
 }
 
-/// What of an exception is told: nothing where its own attribute `args` is an empty tuple, is no tuple or isn't there; the one
-/// item of a tuple, in quotes where the exception is a KeyError or below it; else the tuple.
+/// What of an exception is told: nothing where its own attribute `args` is an empty tuple, is no tuple or isn't there;
+/// the one item of a tuple, in quotes where the exception is a KeyError or below it; else the tuple.
 #[tactic(auto, using(py_data::proofs::Rows::row_steps, py_data::proofs::Steps::call_steps), unfolding(crate::specs::Telling::told_part_row))]
 pub fn told_part<S, V: View<S>>(
     alloc: Global,

@@ -90,8 +90,8 @@ fn given<S, V: View<S>>(
     }
 }
 
-/// The attribute of a value, as `find_attr` finds it. What is bound is a new method with the value as its object. AttributeError,
-/// `no attribute 'x'`, where there is none.
+/// The attribute of a value, as `find_attr` finds it. What is bound is a new method with the value as its object.
+/// AttributeError, `no attribute 'x'`, where there is none.
 #[tactic(auto, using(py_data::proofs::Rows::row_steps, py_data::proofs::Steps::call_steps), unfolding(crate::specs::AttrRows::attr_row))]
 pub fn attr<S, V: View<S>>(
     alloc: Global,

@@ -35,8 +35,8 @@ fn sub_step<S, V: View<S>>(v: &mut V, base: Addr, at: Value) -> Result<Result<Va
     }
 }
 
-/// Whether a class is another one, or has it among its bases: Python 2.7's `issubclass`. It takes as many turns as there are
-/// addresses at most, and ends where a class has no base.
+/// Whether a class is another one, or has it among its bases: Python 2.7's `issubclass`. It takes as many turns as
+/// there are addresses at most, and ends where a class has no base.
 pub fn is_sub<S, V: View<S>>(v: &mut V, c: Addr, base: Addr) -> Result<bool, Stop>
     requires live { IsLive V.sense v.old }
     requires safe { Safe V.sense.partial (is_sub_row {S = S} c.0 base.0) (V.sense.heap v.old) }

@@ -128,9 +128,9 @@ fn numbered<S, V: View<S>>(
     exception(alloc, v, class, with)
 }
 
-/// Makes an exception: an instance of its class, whose one attribute `args` is a tuple of what it is told with. `roots` is the
-/// address of the program's list of roots. A text of more than 1,048,576 bytes makes MemoryError in its place, before anything
-/// is made. Python 2.7's exceptions have `message` besides.
+/// Makes an exception: an instance of its class, whose one attribute `args` is a tuple of what it is told with. `roots`
+/// is the address of the program's list of roots. A text of more than 1,048,576 bytes makes MemoryError in its place,
+/// before anything is made. Python 2.7's exceptions have `message` besides.
 #[tactic(auto, using(py_data::proofs::Rows::row_steps), unfolding(crate::specs::Exceptions::fault_row))]
 pub fn make_fault<S, V: View<S>>(
     alloc: Global,

@@ -1,11 +1,12 @@
-//! What the operations on classes, attributes and exceptions do, as laws: a call of such a function does nothing, and gives its
-//! caller's proof the facts of its clauses.
+//! What the operations on classes, attributes and exceptions do, as laws: a call of such a function does nothing, and
+//! gives its caller's proof the facts of its clauses.
 ghost use Rattle.obj_class.specs.HoldsLaws.{ClassHolds, ClassSteady};
 ghost use Rattle.obj_class.specs.Laws.{AttributeLaw, BelowLaw, ExceptionsLaw, OwnLaw, RootsStay, TellingLaw};
 
 use py_data::{Demands, View};
 
-/// A class is below itself and below what its bases are below; the test finds just this, where the way along bases ends.
+/// A class is below itself and below what its bases are below; the test finds just this, where the way along bases
+/// ends.
 pub fn below_law()
     ensures { BelowLaw }
 {}
@@ -20,8 +21,8 @@ pub fn own_law<S, V: View<S>>()
     ensures { OwnLaw V.sense }
 {}
 
-/// Within others values are written as `repr` writes them, and by themselves as `str` does, but for exceptions: what an operation
-/// has raised is written as it was told.
+/// Within others values are written as `repr` writes them, and by themselves as `str` does, but for exceptions: what an
+/// operation has raised is written as it was told.
 pub fn telling_law()
     ensures { TellingLaw }
 {}
@@ -32,8 +33,8 @@ pub fn roots_law()
     ensures exceptions { ExceptionsLaw }
 {}
 
-/// Over each heap in order, with its list of roots and with items of it, each operation may be begun, answers what it should,
-/// and leaves a heap in order; and in its course no record is longer than before it or at its end.
+/// Over each heap in order, with its list of roots and with items of it, each operation may be begun, answers what it
+/// should, and leaves a heap in order; and in its course no record is longer than before it or at its end.
 pub fn holds_law<S, D: Demands<S>>()
     ensures holds { ClassHolds D.rules D.stands }
     ensures steady { ClassSteady S }

@@ -247,10 +247,11 @@ fn of_record<S, V: View<S>>(
     found_by(alloc, v, a, name, kind)
 }
 
-/// The attribute of a value, or none. `roots` is the address of the program's list of roots, `name` that of a string. An
-/// instance's own attribute comes before its class's and those of the bases, of which the nearest counts. A function that an
-/// instance has of a class is bound, and so is a builtin method of a string, a list, a dictionary, a lock or a thread. This call
-/// only looks: for a call of a method no record is made. Python 2.7 has attributes like `__class__` besides.
+/// The attribute of a value, or none. `roots` is the address of the program's list of roots, `name` that of a string.
+/// An instance's own attribute comes before its class's and those of the bases, of which the nearest counts. A function
+/// that an instance has of a class is bound, and so is a builtin method of a string, a list, a dictionary, a lock or a
+/// thread. This call only looks: for a call of a method no record is made. Python 2.7 has attributes like `__class__`
+/// besides.
 #[tactic(auto, using(py_data::proofs::Rows::row_steps), unfolding(crate::specs::AttrRows::find_attr_row))]
 pub fn find_attr<S, V: View<S>>(
     alloc: Global,

@@ -87,8 +87,9 @@ fn set_in<S, V: View<S>>(
     }
 }
 
-/// Sets an attribute of an instance or a class, among those that it has itself. AttributeError for any other value; MemoryError
-/// where it has 524,288 of them. Python 2.7 has further objects that take attributes, as functions and modules.
+/// Sets an attribute of an instance or a class, among those that it has itself. AttributeError for any other value;
+/// MemoryError where it has 524,288 of them. Python 2.7 has further objects that take attributes, as functions and
+/// modules.
 #[tactic(auto, using(py_data::proofs::Rows::row_steps, py_data::proofs::Steps::call_steps), unfolding(crate::specs::AttrRows::set_attr_row))]
 pub fn set_attr<S, V: View<S>>(
     alloc: Global,
@@ -152,8 +153,8 @@ fn del_in<S, V: View<S>>(
     }
 }
 
-/// Takes out an attribute of an instance or a class, of those that it has itself. AttributeError where it has none of that name,
-/// also where its class or a base has one, and for any other value.
+/// Takes out an attribute of an instance or a class, of those that it has itself. AttributeError where it has none of
+/// that name, also where its class or a base has one, and for any other value.
 #[tactic(auto, using(py_data::proofs::Rows::row_steps, py_data::proofs::Steps::call_steps), unfolding(crate::specs::AttrRows::del_attr_row))]
 pub fn del_attr<S, V: View<S>>(
     alloc: Global,

@@ -188,8 +188,8 @@ fn roots_behind<S, V: View<S>>(alloc: Global, v: &mut V, cell: Value) -> Result<
     listed(alloc, v, values)
 }
 
-/// Makes the list of the roots of a program, and answers its address: the Cell of the count of threads, which is 1, and the classes
-/// that every program has, in the order of their numbers. 62 records are made.
+/// Makes the list of the roots of a program, and answers its address: the Cell of the count of threads, which is 1, and
+/// the classes that every program has, in the order of their numbers. 62 records are made.
 #[tactic(auto, using(py_data::proofs::Rows::row_steps, py_data::proofs::Steps::call_steps), unfolding(crate::specs::NewRoots::roots_row))]
 pub fn make_roots<S, V: View<S>>(alloc: Global, v: &mut V) -> Result<Addr, Stop>
     requires live { IsLive V.sense v.old }

@@ -190,10 +190,10 @@ fn tell<S, V: View<S>>(
     }
 }
 
-/// The text of a value, as it stands within others (`quoted`), or by itself. `roots` is the address of the program's list of
-/// roots. By itself an exception is told by its attribute `args`: the text of the one item of a tuple, in quotes for KeyError, or
-/// the tuple; nothing where the tuple is empty or isn't one. RuntimeError, where values are nested deeper than 100 levels, of
-/// which an exception is one; Python 2.7 goes on to its own limit.
+/// The text of a value, as it stands within others (`quoted`), or by itself. `roots` is the address of the program's
+/// list of roots. By itself an exception is told by its attribute `args`: the text of the one item of a tuple, in
+/// quotes for KeyError, or the tuple; nothing where the tuple is empty or isn't one. RuntimeError, where values are
+/// nested deeper than 100 levels, of which an exception is one; Python 2.7 goes on to its own limit.
 #[tactic(auto, using(py_data::proofs::Rows::row_steps), unfolding(crate::specs::Telling::told_row))]
 pub fn text<S, V: View<S>>(
     alloc: Global,

@@ -1,13 +1,13 @@
-//! What the operations on dictionaries do to the keys and values, as laws: a call of such a function does nothing, and gives
-//! its caller's proof the facts of its clauses.
+//! What the operations on dictionaries do to the keys and values, as laws: a call of such a function does nothing, and
+//! gives its caller's proof the facts of its clauses.
 ghost use Rattle.obj_dict.specs.HoldsLaws.{DictHolds, DictSteady};
 ghost use Rattle.obj_dict.specs.Laws.{HashLaw, GetLaw, SetLaw, NewLaw, FullLaw, DelLaw, LackLaw};
 ghost use Rattle.obj_dict.specs.PairLaws.{PairLaw};
 
 use py_data::{Demands, View};
 
-/// A key that is set again keeps its place and stays as it was; a new one comes last; a pair that goes leaves the others in
-/// their order.
+/// A key that is set again keeps its place and stays as it was; a new one comes last; a pair that goes leaves the
+/// others in their order.
 pub fn pair_law()
     ensures { PairLaw }
 {}
@@ -23,8 +23,8 @@ pub fn dict_law<S, V: View<S>>()
     ensures del_missing { LackLaw V.sense }
 {}
 
-/// Over each heap in order, and with items of it, each operation may be begun, answers an item or an exception, and leaves a
-/// heap in order; and in its course no record is longer than before it or at its end.
+/// Over each heap in order, and with items of it, each operation may be begun, answers an item or an exception, and
+/// leaves a heap in order; and in its course no record is longer than before it or at its end.
 pub fn holds_law<S, D: Demands<S>>()
     ensures holds { DictHolds D.rules D.stands }
     ensures steady { DictSteady S }

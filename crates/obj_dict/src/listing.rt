@@ -144,8 +144,8 @@ fn list_items<S, V: View<S>>(alloc: Global, v: &mut V, d: Addr) -> Result<Got<Va
     make_list(alloc, v, items)
 }
 
-/// A new list of a dictionary's keys, of its values, or of a new tuple of each key and its value, in the order in which the
-/// keys came.
+/// A new list of a dictionary's keys, of its values, or of a new tuple of each key and its value, in the order in which
+/// the keys came.
 #[tactic(auto, unfolding(crate::specs::Listing::list_of_row))]
 pub fn list_of<S, V: View<S>>(
     alloc: Global,

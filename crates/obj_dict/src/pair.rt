@@ -141,8 +141,8 @@ fn drop_found<S, V: View<S>>(v: &mut V, d: Addr, key: Value) -> Result<Got<Value
     }
 }
 
-/// Takes out the pair of a key, and answers its value; the pairs behind it close the gap. KeyError with the key where it
-/// isn't there, TypeError for a value that can't be a key.
+/// Takes out the pair of a key, and answers its value; the pairs behind it close the gap. KeyError with the key where
+/// it isn't there, TypeError for a value that can't be a key.
 #[tactic(auto, using(py_data::proofs::Rows::row_steps, py_data::proofs::Steps::call_steps), unfolding(crate::specs::Dict::del_row, crate::specs::Dict::if_key))]
 pub fn del<S, V: View<S>>(alloc: Global, v: &mut V, d: Addr, key: Value) -> Result<Got<Value>, Stop>
     requires live { IsLive V.sense v.old }

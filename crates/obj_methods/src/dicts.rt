@@ -124,8 +124,8 @@ fn or_given(given: Option<Value>, taken: Got<Value>) -> Got<Value>
     }
 }
 
-/// `pop`: takes out the pair of a key, and gives its value. Where the key isn't there, it gives the value that is given, and
-/// without one raises KeyError with the key.
+/// `pop`: takes out the pair of a key, and gives its value. Where the key isn't there, it gives the value that is
+/// given, and without one raises KeyError with the key.
 #[tactic(auto, using(py_data::proofs::Rows::row_steps, py_data::proofs::Steps::call_steps), unfolding(crate::specs::Dicts::pop_with))]
 fn pop<S, V: View<S>>(
     alloc: Global,
@@ -146,9 +146,9 @@ fn pop<S, V: View<S>>(
     }
 }
 
-/// The method of a number, of the dictionary at an address: `get`, `keys`, `values`, `items`, `has_key` or `pop`. TypeError,
-/// `wrong arguments`, for another count of arguments, and then `unhashable` for what can't be a key. TypeError, `unsupported
-/// operand`, for any other number.
+/// The method of a number, of the dictionary at an address: `get`, `keys`, `values`, `items`, `has_key` or `pop`.
+/// TypeError, `wrong arguments`, for another count of arguments, and then `unhashable` for what can't be a key.
+/// TypeError, `unsupported operand`, for any other number.
 #[tactic(auto, using(py_data::proofs::Rows::row_steps), unfolding(crate::specs::Dicts::dict_method_row))]
 pub fn dict_method<S, V: View<S>>(
     alloc: Global,

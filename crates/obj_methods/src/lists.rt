@@ -81,8 +81,8 @@ fn pop_at<S, V: View<S>>(
     }
 }
 
-/// `pop`: takes out the last item, or the one of an index, and gives it. IndexError, `pop from empty list`, where there is no
-/// item at all, and `index out of range` where none has the index.
+/// `pop`: takes out the last item, or the one of an index, and gives it. IndexError, `pop from empty list`, where there
+/// is no item at all, and `index out of range` where none has the index.
 #[tactic(auto, using(py_data::proofs::Rows::row_steps), unfolding(crate::specs::Lists::pop_by))]
 fn pop<S, V: View<S>>(alloc: Global, v: &mut V, a: Addr, args: &[Value]) -> Result<Got<Value>, Stop>
     requires live { IsLive V.sense v.old }
@@ -230,10 +230,10 @@ fn sort<S, V: View<S>>(
     }
 }
 
-/// The method of a number, of the list at an address: `append`, `pop`, `insert`, `extend`, `index`, `remove`, `reverse` or
-/// `sort`. TypeError, `wrong arguments`, is tested first, for the count of arguments and then for their types (`not
-/// iterable` in `extend`); then come the list's items and the limit of its length. TypeError, `unsupported operand`, for any
-/// other number.
+/// The method of a number, of the list at an address: `append`, `pop`, `insert`, `extend`, `index`, `remove`, `reverse`
+/// or `sort`. TypeError, `wrong arguments`, is tested first, for the count of arguments and then for their types (`not
+/// iterable` in `extend`); then come the list's items and the limit of its length. TypeError, `unsupported operand`,
+/// for any other number.
 #[tactic(auto, using(py_data::proofs::Rows::row_steps), unfolding(crate::specs::Lists::list_method_row))]
 pub fn list_method<S, V: View<S>>(
     alloc: Global,

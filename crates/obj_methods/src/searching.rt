@@ -174,8 +174,8 @@ fn remove_first<S, V: View<S>>(
     }
 }
 
-/// `remove`: takes out the first item that equals the argument, and gives None. ValueError, `not in list`, where there is
-/// none.
+/// `remove`: takes out the first item that equals the argument, and gives None. ValueError, `not in list`, where there
+/// is none.
 #[tactic(auto, using(py_data::proofs::Rows::row_steps), unfolding(crate::specs::Lists::remove_with))]
 pub fn remove<S, V: View<S>>(
     alloc: Global,

@@ -182,9 +182,9 @@ fn sort_strings<S, V: View<S>>(
     }
 }
 
-/// Values in order: numbers, truth values among them, by their value, strings by their bytes. Those of which neither is less
-/// keep the order that they stood in. TypeError, `unsupported operand`, where they are neither all numbers nor all strings,
-/// also where there is only one. It takes n log n steps, and reads the bytes of each string once.
+/// Values in order: numbers, truth values among them, by their value, strings by their bytes. Those of which neither is
+/// less keep the order that they stood in. TypeError, `unsupported operand`, where they are neither all numbers nor all
+/// strings, also where there is only one. It takes n log n steps, and reads the bytes of each string once.
 #[tactic(auto, using(py_data::proofs::Rows::row_steps), unfolding(crate::specs::Sorting::sorted_row))]
 pub fn sorted<S, V: View<S>>(alloc: Global, v: &mut V, values: Values) -> Result<Got<Values>, Stop>
     requires live { IsLive V.sense v.old }

@@ -458,9 +458,10 @@ fn alone<S, V: View<S>>(
     }
 }
 
-/// The text of a value, as it stands within others (`quoted`), or by itself, which differs for a string alone: an exception is
-/// written as any other instance is. `levels` says how many levels of lists, tuples and dictionaries may stand in one another;
-/// RuntimeError, where values are nested deeper. Python 2.7 writes `[...]` for a list within itself.
+/// The text of a value, as it stands within others (`quoted`), or by itself, which differs for a string alone: an
+/// exception is written as any other instance is. `levels` says how many levels of lists, tuples and dictionaries may
+/// stand in one another; RuntimeError, where values are nested deeper. Python 2.7 writes `[...]` for a list within
+/// itself.
 #[tactic(auto, using(py_data::proofs::Rows::row_steps, py_data::proofs::Steps::call_steps), unfolding(crate::specs::Text::text_row))]
 pub fn text<S, V: View<S>>(
     alloc: Global,

@@ -10,8 +10,8 @@ pub fn division_law()
     ensures { DivisionLaw }
 {}
 
-/// `+` of two lists or tuples makes a record of the items of both, and of two strings one of the bytes of both, which is
-/// as long as both.
+/// `+` of two lists or tuples makes a record of the items of both, and of two strings one of the bytes of both, which
+/// is as long as both.
 pub fn join_law<S, V: View<S>>()
     ensures items { JoinLaw V.sense }
     ensures texts { JoinTextsLaw V.sense }

@@ -222,8 +222,8 @@ fn next_over<S, V: View<S>>(
     }
 }
 
-/// The next item of an iterator, or none at its end: of a list or tuple an item, of a string a new string of one byte, of a
-/// dictionary a key, of a range a number. RuntimeError where the dictionary has more or fewer pairs than when the
+/// The next item of an iterator, or none at its end: of a list or tuple an item, of a string a new string of one byte,
+/// of a dictionary a key, of a range a number. RuntimeError where the dictionary has more or fewer pairs than when the
 /// iterator was made.
 #[tactic(auto, using(py_data::proofs::Rows::row_steps))]
 pub fn next<S, V: View<S>>(alloc: Global, v: &mut V, it: Addr) -> Result<Got<Option<Value>>, Stop>

@@ -90,7 +90,8 @@ pub fn pop<S, V: View<S>>(alloc: Global, v: &mut V, a: Addr, i: i64) -> Result<G
     }
 }
 
-/// Puts a value into place `k` of a list of `n` items, which was looked at; what stands from there on moves one place up.
+/// Puts a value into place `k` of a list of `n` items, which was looked at; what stands from there on moves one place
+/// up.
 fn open_gap<S, V: View<S>>(v: &mut V, a: Addr, k: usize, n: usize, x: Value) -> Result<(), Stop>
     requires live { IsLive V.sense v.old }
     requires stands { Stands V.sense a.0 (at (V.sense.heap v.old) a.0) v.old }

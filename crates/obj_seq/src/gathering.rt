@@ -161,10 +161,10 @@ fn gather_at<S, V: View<S>>(alloc: Global, v: &mut V, a: Addr) -> Result<Got<Val
     gather_from(alloc, v, a, kind)
 }
 
-/// All items of an object, in their order: of a list or tuple its values, of a dictionary its keys, of a string a new string
-/// of each byte, of a range its numbers, of an iterator what is left of it, which is then at its end. TypeError for any
-/// other value; MemoryError where there are more items than a list may have, before anything is done for a range, and of an
-/// iterator once it has given them.
+/// All items of an object, in their order: of a list or tuple its values, of a dictionary its keys, of a string a new
+/// string of each byte, of a range its numbers, of an iterator what is left of it, which is then at its end. TypeError
+/// for any other value; MemoryError where there are more items than a list may have, before anything is done for a
+/// range, and of an iterator once it has given them.
 #[tactic(auto, using(py_data::proofs::Rows::row_steps), unfolding(crate::specs::Gather::gather_row))]
 pub fn gather<S, V: View<S>>(alloc: Global, v: &mut V, x: Value) -> Result<Got<Values>, Stop>
     requires live { IsLive V.sense v.old }

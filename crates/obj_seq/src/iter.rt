@@ -102,8 +102,8 @@ fn iter_over<S, V: View<S>>(alloc: Global, v: &mut V, a: Addr) -> Result<Got<Val
     iter_of(alloc, v, a, count)
 }
 
-/// An iterator over a list, a tuple, a string, a dictionary (its keys) or a range, at its start; of an iterator it is the
-/// iterator itself. TypeError for any other value.
+/// An iterator over a list, a tuple, a string, a dictionary (its keys) or a range, at its start; of an iterator it is
+/// the iterator itself. TypeError for any other value.
 #[tactic(auto, using(py_data::proofs::Rows::row_steps))]
 pub fn make_iter<S, V: View<S>>(alloc: Global, v: &mut V, x: Value) -> Result<Got<Value>, Stop>
     requires live { IsLive V.sense v.old }

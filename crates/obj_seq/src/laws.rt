@@ -1,5 +1,5 @@
-//! What the operations on lists and iterators answer, leave and raise, and that they keep a heap in order, as laws: a call of
-//! such a function does nothing, and gives its caller's proof the facts of its clauses.
+//! What the operations on lists and iterators answer, leave and raise, and that they keep a heap in order, as laws: a
+//! call of such a function does nothing, and gives its caller's proof the facts of its clauses.
 ghost use Rattle.obj_seq.specs.HoldsLaws.{SeqHolds, SeqSteady};
 ghost use Rattle.obj_seq.specs.Laws.{ItemLaw, SetLaw, PopLaw, DelLaw, InsertLaw, ReverseLaw, SliceLaw, IndexLaw, PopIndexLaw, EmptyLaw, FullLaw, NoIterLaw, SizeLaw};
 ghost use Rattle.obj_seq.specs.Seq.{item_row, set_item_row, del_item_row};
@@ -35,8 +35,8 @@ pub fn slice_law<S, V: View<S>>()
 {}
 
 /// What an operation on a list raises, and when: IndexError where no item has the index, or the list from which one is
-/// taken out is empty; MemoryError where a value is inserted into a list at the limit of length. All records are then as
-/// they were.
+/// taken out is empty; MemoryError where a value is inserted into a list at the limit of length. All records are then
+/// as they were.
 pub fn fault_law<S, V: View<S>>()
     ensures item { IndexLaw V.sense item_row }
     ensures set { (x : Value) → IndexLaw V.sense (λ a i. set_item_row a i x) }
@@ -46,15 +46,15 @@ pub fn fault_law<S, V: View<S>>()
     ensures insert_full { FullLaw V.sense }
 {}
 
-/// What going through an object raises: TypeError where the value can't be gone through; RuntimeError where the dictionary
-/// has more or fewer pairs than when the iterator was made. All records are then as they were.
+/// What going through an object raises: TypeError where the value can't be gone through; RuntimeError where the
+/// dictionary has more or fewer pairs than when the iterator was made. All records are then as they were.
 pub fn iter_fault_law<S, V: View<S>>()
     ensures make_iter { NoIterLaw V.sense }
     ensures next { SizeLaw V.sense }
 {}
 
-/// Over each heap in order, and with items of it, each operation may be begun, answers an item or an exception, and leaves a
-/// heap in order; and in the course of an operation no record is longer than before it or at its end.
+/// Over each heap in order, and with items of it, each operation may be begun, answers an item or an exception, and
+/// leaves a heap in order; and in the course of an operation no record is longer than before it or at its end.
 pub fn holds_law<S, D: Demands<S>>()
     ensures holds { SeqHolds D.rules D.stands }
     ensures steady { SeqSteady S }

@@ -45,8 +45,8 @@ pub fn collect<S, V: View<S>>(
     Ok(values)
 }
 
-/// A new list or tuple of the items from one bound up to another. A negative bound counts from the end, a bound is cut to
-/// what there is, and a missing one is the first place or the end.
+/// A new list or tuple of the items from one bound up to another. A negative bound counts from the end, a bound is cut
+/// to what there is, and a missing one is the first place or the end.
 #[tactic(auto, using(py_data::proofs::Rows::row_steps))]
 pub fn slice<S, V: View<S>>(
     alloc: Global,

@@ -11,7 +11,8 @@ use py_base::{first, skip};
 #[tactic(auto, using(crate::proofs::PiecesLemmas::piece_found, crate::proofs::PiecesLemmas::piece_last))]
 pub fn cut_at<'a>(separator: &Finder<'_>, bytes: &'a [u8]) -> Option<(&'a [u8], &'a [u8])>
     requires some { 0 < length separator.now }
-    ensures pieces { MatchOption result (split separator.now bytes.now ≡ last_of (Some separator.now) bytes.now) (λ p. split separator.now bytes.now ≡ p.0.now ∷ split separator.now p.1.now) }
+    ensures pieces { MatchOption result (split separator.now bytes.now ≡ last_of (Some separator.now) bytes.now)
+        (λ p. split separator.now bytes.now ≡ p.0.now ∷ split separator.now p.1.now) }
     ensures shorter { IfSome result (λ p. length p.1.now < length bytes.now) }
 {
     match separator.find(bytes) {
@@ -37,7 +38,8 @@ fn cut_word(bytes: &[u8]) -> Option<(&[u8], &[u8])>
 /// no word.
 pub fn cut_next<'a>(separator: &Option<Finder<'_>>, bytes: &'a [u8]) -> Option<(&'a [u8], &'a [u8])>
     requires some { IfSome separator.now (λ s. 0 < length s) }
-    ensures pieces { MatchOption result (pieces_of separator.now bytes.now ≡ last_of separator.now bytes.now) (λ p. pieces_of separator.now bytes.now ≡ p.0.now ∷ pieces_of separator.now p.1.now) }
+    ensures pieces { MatchOption result (pieces_of separator.now bytes.now ≡ last_of separator.now bytes.now)
+        (λ p. pieces_of separator.now bytes.now ≡ p.0.now ∷ pieces_of separator.now p.1.now) }
     ensures shorter { IfSome result (λ p. length p.1.now < length bytes.now) }
 {
     match separator {

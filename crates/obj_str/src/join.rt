@@ -29,8 +29,8 @@ fn test_text<S, V: View<S>>(alloc: Global, v: &mut V, x: Value) -> Result<Got<()
     }
 }
 
-/// A text with a separator and the text of a value behind it. TypeError, `wrong arguments`, where the value is no string.
-/// A text that has become too long is None, and stays so: then the value's bytes aren't read.
+/// A text with a separator and the text of a value behind it. TypeError, `wrong arguments`, where the value is no
+/// string. A text that has become too long is None, and stays so: then the value's bytes aren't read.
 fn add_item<S, V: View<S>>(
     alloc: Global,
     v: &mut V,

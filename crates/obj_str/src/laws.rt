@@ -25,8 +25,8 @@ pub fn words_law()
     ensures { WordsLaw }
 {}
 
-/// `replace` leaves no old part where the two parts share no byte and neither is empty; to replace a part by itself changes
-/// nothing.
+/// `replace` leaves no old part where the two parts share no byte and neither is empty; to replace a part by itself
+/// changes nothing.
 pub fn replace_law()
     ensures { ReplaceLaw }
 {}
@@ -41,8 +41,8 @@ pub fn letters_law()
     ensures { LettersLaw }
 {}
 
-/// Over each heap in order, of a string and with items of it as arguments, each method may be begun, answers an item or an
-/// exception, and leaves a heap in order; and in its course no record is longer than before it or at its end.
+/// Over each heap in order, of a string and with items of it as arguments, each method may be begun, answers an item or
+/// an exception, and leaves a heap in order; and in its course no record is longer than before it or at its end.
 pub fn holds_law<S, D: Demands<S>>()
     ensures holds { StrHolds D.rules D.stands }
     ensures steady { StrSteady S }

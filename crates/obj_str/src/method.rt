@@ -275,9 +275,9 @@ fn replace<S, V: View<S>>(
 }
 
 /// The method of a number, of the string at an address: `join`, `split`, `strip`, `upper`, `lower`, `startswith`,
-/// `endswith`, `find` or `replace`. What is raised is tested in this order: TypeError, `wrong arguments`, for the count of
-/// arguments and then for their types (`not iterable` in `join`); ValueError, `empty separator`; MemoryError for a text or a
-/// list that would be too long. TypeError, `unsupported operand`, for any other number.
+/// `endswith`, `find` or `replace`. What is raised is tested in this order: TypeError, `wrong arguments`, for the count
+/// of arguments and then for their types (`not iterable` in `join`); ValueError, `empty separator`; MemoryError for a
+/// text or a list that would be too long. TypeError, `unsupported operand`, for any other number.
 #[tactic(auto, using(py_data::proofs::Rows::row_steps), unfolding(crate::specs::Methods::method_row))]
 pub fn str_method<S, V: View<S>>(
     alloc: Global,

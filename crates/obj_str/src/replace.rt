@@ -48,8 +48,8 @@ fn between_all(alloc: Global, bytes: &[u8], new: &[u8]) -> Result<Option<Bytes>,
     grown(text, new)
 }
 
-/// A text with each old part, from the left, replaced by the new one; an empty old part stands before each byte and at the
-/// end. None where the text would be longer than a string may be: it is made no further than that.
+/// A text with each old part, from the left, replaced by the new one; an empty old part stands before each byte and at
+/// the end. None where the text would be longer than a string may be: it is made no further than that.
 #[tactic(auto, using(crate::proofs::Fitting::replaced_empty, crate::proofs::Fitting::replaced_some))]
 pub fn replaced(
     alloc: Global,

@@ -9,8 +9,8 @@ use std::marker::Model;
 /// The most bytes that are held in place, as those of names are.
 pub(crate) const SHORT: usize = 32;
 
-/// The bytes of a string: up to 32 of them in place, so that they take no memory, and more in a list. Contracts see them
-/// in their order.
+/// The bytes of a string: up to 32 of them in place, so that they take no memory, and more in a list. Contracts see
+/// them in their order.
 #[derive(Drop)]
 pub struct Text {
     room: [u8; SHORT],

@@ -1,5 +1,6 @@
-//! A bench for rows: a program of words is done over a view, and what it comes to is compared with what is expected. What is
-//! expected is written by hand: it is what Python 2.7 does, with the texts of exceptions that this language has.
+//! A bench for rows: a program of words is done over a view, and what it comes to is compared with what is expected.
+//! What is expected is written by hand: it is what Python 2.7 does, with the texts of exceptions that this language
+//! has.
 //!
 //! A row is a line, `PROGRAM => EXPECTED`. The words of a program are parted by blanks, and work on a stack of values.
 ghost use Rattle.std.specs.Prelude.{◌≡◌, ◌≤◌, length, IfOk, [], None};

@@ -46,15 +46,16 @@ fn member<S, V: View<S>>(
 }
 
 /// The call of a builtin of `thread` or `threading`, or of a method of locks or threads. `roots` is the address of the
-/// program's list of roots, `me` that of the Thread record of the thread that calls, if it has one, `b` the number of the
-/// builtin, `own` the object of a method. `keys` are names and values by turns; each name is the address of a string.
+/// program's list of roots, `me` that of the Thread record of the thread that calls, if it has one, `b` the number of
+/// the builtin, `own` the object of a method. `keys` are names and values by turns; each name is the address of a
+/// string.
 ///
-/// A method's object is tested first: TypeError, `unsupported operand`, where it is of another kind. Then come keywords and
-/// the count of arguments, and their types: TypeError, `wrong arguments`. Then `release` of a free lock raises
-/// `thread.error`, `release unlocked lock`; `start` of a started thread, `join` of one that isn't, and of the calling one,
-/// RuntimeError. What a thread is to call is tested next, and last whether there may be one more: `thread.error`, `can't start
-/// new thread`. A call that waits, and one that lets a thread start, has changed nothing. Python 2.7's locks and threads have
-/// further methods, and its `Thread` further keywords.
+/// A method's object is tested first: TypeError, `unsupported operand`, where it is of another kind. Then come keywords
+/// and the count of arguments, and their types: TypeError, `wrong arguments`. Then `release` of a free lock raises
+/// `thread.error`, `release unlocked lock`; `start` of a started thread, `join` of one that isn't, and of the calling
+/// one, RuntimeError. What a thread is to call is tested next, and last whether there may be one more: `thread.error`,
+/// `can't start new thread`. A call that waits, and one that lets a thread start, has changed nothing. Python 2.7's
+/// locks and threads have further methods, and its `Thread` further keywords.
 #[tactic(auto, using(py_data::proofs::Rows::row_steps), unfolding(crate::specs::Threads::thread_call_row))]
 pub fn thread_call<S, V: View<S>>(
     alloc: Global,

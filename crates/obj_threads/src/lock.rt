@@ -307,7 +307,8 @@ fn of_record<S, V: View<S>>(
     of_kind(alloc, v, m, a, args, keys, kind)
 }
 
-/// The method of a number, `acquire`, `release` or `locked`, of a value. TypeError, `unsupported operand`, where it is no lock.
+/// The method of a number, `acquire`, `release` or `locked`, of a value. TypeError, `unsupported operand`, where it is
+/// no lock.
 #[tactic(auto, using(py_data::proofs::Rows::row_steps), unfolding(crate::specs::Locks::lock_row))]
 pub fn lock_method<S, V: View<S>>(
     alloc: Global,

@@ -247,8 +247,8 @@ fn start_with<S, V: View<S>>(
     }
 }
 
-/// A thread that calls a value with arguments, and that may have a Thread record. The arguments are tested first, then what is
-/// called, and then the count of threads.
+/// A thread that calls a value with arguments, and that may have a Thread record. The arguments are tested first, then
+/// what is called, and then the count of threads.
 #[tactic(auto, using(py_data::proofs::Rows::row_steps, py_data::proofs::Steps::call_steps), unfolding(crate::specs::Starting::begin_row))]
 pub fn begin<S, V: View<S>>(
     alloc: Global,

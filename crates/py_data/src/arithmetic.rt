@@ -38,8 +38,8 @@ pub fn floor_modulo(a: i64, b: i64) -> i64
     if is_across(rest, b) { rest + b } else { rest }
 }
 
-/// The law of both: they make the dividend up again, what is left is on the divisor's side of 0 and nearer to 0 than it,
-/// and no other two numbers do so.
+/// The law of both: they make the dividend up again, what is left is on the divisor's side of 0 and nearer to 0 than
+/// it, and no other two numbers do so.
 pub fn floor_division_law()
     ensures divides { (a b : ℤ) → b ≢ pos 0
         → IsFloorDivision a b (floor_quotient a b) (floor_remainder a b) }

@@ -14,8 +14,8 @@ use std::marker::Model;
 /// tell: how many values there is room for, and for how many there was when the record was made. They are 0 for the
 /// other kinds.
 ///
-/// Contracts see of it a `Rec`. There is memory for as many values as its room says, so what a change of the open step cut
-/// off can be put back without any.
+/// Contracts see of it a `Rec`. There is memory for as many values as its room says, so what a change of the open step
+/// cut off can be put back without any.
 #[derive(Debug, Drop)]
 pub struct Entry {
     kind: Kind,
@@ -34,7 +34,9 @@ impl Model for Entry {
 
     ghost view = { λ e. record { kind = e.kind; values = e.values.items; bytes = e.bytes; room = e.room; first = e.first } };
 
-    ghost invariant = { λ e. IsEntry (record { kind = e.kind; values = e.values.items; bytes = e.bytes; room = e.room; first = e.first }) (vec_capacity e.values) };
+    ghost invariant = { λ e. IsEntry
+        (record { kind = e.kind; values = e.values.items; bytes = e.bytes; room = e.room; first = e.first })
+        (vec_capacity e.values) };
 }
 
 impl Entry {
@@ -61,8 +63,8 @@ impl Entry {
         })
     }
 
-    /// The entry of a record that stands somewhere else, of these lists and with its rooms, which are 0 for a kind that has
-    /// none.
+    /// The entry of a record that stands somewhere else, of these lists and with its rooms, which are 0 for a kind that
+    /// has none.
     pub fn standing(
         kind: Kind,
         mut values: Vec<Value>,
@@ -210,9 +212,10 @@ impl Entry {
         Undo::Insert(k, key, x)
     }
 
-    /// Makes a change in place, and answers what takes it back. A value that is set or pushed, and a pair that is pushed, take
-    /// time of that alone, beside what the growing of a list takes now and then; a cut takes time and memory of what it cuts
-    /// off, a pair that goes the time of those behind it. At want of memory the record is as before.
+    /// Makes a change in place, and answers what takes it back. A value that is set or pushed, and a pair that is
+    /// pushed, take time of that alone, beside what the growing of a list takes now and then; a cut takes time and
+    /// memory of what it cuts off, a pair that goes the time of those behind it. At want of memory the record is as
+    /// before.
     pub fn apply(&mut self, alloc: Global, c: Change) -> Result<Undo, NoMemory>
         requires { Allows c self.old }
         ensures ok { IfOk result (λ u. IsUndo c self.old u self.new) }

@@ -2,8 +2,8 @@
 ghost use Rattle.py_data.specs.Heap.{Heap};
 ghost use Rattle.py_data.specs.Order.{Rules, AreLasting, StatesLast};
 
-/// What a client, whose threads have states S, asks of the heap that they stand over, beyond the shapes of records. The trait
-/// has no code: a law over a type that meets it holds whatever a client asks.
+/// What a client, whose threads have states S, asks of the heap that they stand over, beyond the shapes of records. The
+/// trait has no code: a law over a type that meets it holds whatever a client asks.
 pub trait Demands<S> {
     ghost rules: { Rules };
 
@@ -14,8 +14,8 @@ pub trait Demands<S> {
     ghost stay: { StatesLast rules stands };
 }
 
-/// A property of an answer, and of the heap over which it was given. The trait has no code: a law over a type that meets it
-/// holds for each property.
+/// A property of an answer, and of the heap over which it was given. The trait has no code: a law over a type that
+/// meets it holds for each property.
 pub trait Property<A> {
     ghost has: { A → Heap → Type 0 };
 }

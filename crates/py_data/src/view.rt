@@ -38,9 +38,9 @@ pub trait Peek {
 
 /// One thread's sight of the heap and of the outside. S is the state of a thread that it may start.
 ///
-/// A view says of itself, by `sense`, which records it shows, what each call does to it and with which Stop a call may be
-/// refused; the laws below its methods hold of each view. An operation that is generic over views is described by a row,
-/// a small program over these calls, and ensures that it met that row (`specs/Sense.antt`).
+/// A view says of itself, by `sense`, which records it shows, what each call does to it and with which Stop a call may
+/// be refused; the laws below its methods hold of each view. An operation that is generic over views is described by a
+/// row, a small program over these calls, and ensures that it met that row (`specs/Sense.antt`).
 ///
 /// A view that has stopped is called no more before `undo_step`.
 pub trait View<S> {
@@ -160,8 +160,8 @@ pub trait View<S> {
     fn open_step(&mut self)
         ensures { bracket.opens self.old self.new };
 
-    /// Takes back the step's changes, made records, started states and flag. Looks stay, and so do bytes that were written
-    /// or taken.
+    /// Takes back the step's changes, made records, started states and flag. Looks stay, and so do bytes that were
+    /// written or taken.
     fn undo_step(&mut self)
         ensures { bracket.undoes self.old self.new };
 

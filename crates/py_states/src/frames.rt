@@ -261,7 +261,8 @@ impl Frames {
         }
     }
 
-    /// The innermost frame goes on at a place, without its `n` operands, and with a value in a slot, if it has that slot.
+    /// The innermost frame goes on at a place, without its `n` operands, and with a value in a slot, if it has that
+    /// slot.
     #[tactic(auto, using(crate::proofs::LaidLemmas::kept_laid))]
     pub fn keep(&mut self, n: usize, i: usize, x: Value, pc: u32)
         ensures { self.new.frames ≡ on_top (λ f. stored i x (advanced n [] pc f)) self.old.frames }

@@ -226,7 +226,9 @@ impl<'p, C: Client, S: SegStore, I: Source, O: Sink, E: Sink> Core<'p, C, S, I, 
         ensures broken { self.new.books.broken ≡ self.old.books.broken }
         ensures cause { self.new.books.cause ≡ self.old.books.cause }
         ensures core { (w : Worlds) → core_with w k (S.meaning self.new.store) self.new.books work.now
-            ≡ doom_readers k (transaction w.own ((S.meaning self.old.store).part k) work.now) (range_with_len 0 (S.meaning self.old.store).segments) (core_with w k (S.meaning self.old.store) self.old.books work.now) }
+            ≡ doom_readers k (transaction w.own ((S.meaning self.old.store).part k) work.now)
+            (range_with_len 0 (S.meaning self.old.store).segments)
+            (core_with w k (S.meaning self.old.store) self.old.books work.now) }
     {
         let count = self.store.segments();
         'segments: for j in 0..count {

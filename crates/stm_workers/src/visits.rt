@@ -412,9 +412,9 @@ fn go_round<C: Client, S: SegStore, I: Source, O: Sink, E: Sink>(
 
 /// One visit of the worker of segment `k` without pieces, and what it found.
 ///
-/// Where nothing is in hand a transaction of the next ready thread begins. Then at most `VISIT_STEPS` steps are done, on
-/// one segment `ALONE_STEPS`, up to the length. What has as many steps as the length, or waits, or has ended, is committed; what is to print or
-/// read becomes solo, or is committed where another one is solo.
+/// Where nothing is in hand a transaction of the next ready thread begins. Then at most `VISIT_STEPS` steps are done,
+/// on one segment `ALONE_STEPS`, up to the length. What has as many steps as the length, or waits, or has ended, is
+/// committed; what is to print or read becomes solo, or is committed where another one is solo.
 pub fn visit<C: Client, S: SegStore, I: Source, O: Sink, E: Sink>(
     core: &mut Core<'_, C, S, I, O, E>,
     k: u8,

@@ -177,7 +177,8 @@ fn named<V: View<u8> + Drop>(bench: Bench<V>, args: usize) -> Result<Bench<V>, H
     }
 }
 
-/// `x args.. .NAMEn`: the builtin method of that name of a value, called with the top `n` values, below which the value stands.
+/// `x args.. .NAMEn`: the builtin method of that name of a value, called with the top `n` values, below which the value
+/// stands.
 pub fn method<V: View<u8> + Drop>(
     bench: Bench<V>,
     name: &[u8],

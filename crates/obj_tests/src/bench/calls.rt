@@ -1,5 +1,5 @@
-//! The operations over a view whose heap is in order: each is called with values of a stack, and leaves the heap in order
-//! and the values of the stack in it.
+//! The operations over a view whose heap is in order: each is called with values of a stack, and leaves the heap in
+//! order and the values of the stack in it.
 ghost use Rattle.std.specs.Prelude.{◌≡◌, ◌<◌, ◌≤◌, length, IfOk, IfSome, [], ◌∷◌};
 ghost use Rattle.py_base.specs.declared.kind.Kind.TheVariants.{List as ListKind, Str};
 ghost use Rattle.py_data.specs.declared.record.TheConstants.{LENGTH_LIMIT};

@@ -439,8 +439,8 @@ fn told_as<V: View<u8> + Drop>(bench: Bench<V>, how: u8, exc: u8) -> Result<Benc
     }
 }
 
-/// `text !NAME`, `x ?NAME` and `x ^NAME`: the instance that an exception of this class makes, told with the text of the string
-/// at the top, with the top value, or with nothing.
+/// `text !NAME`, `x ?NAME` and `x ^NAME`: the instance that an exception of this class makes, told with the text of the
+/// string at the top, with the top value, or with nothing.
 pub fn fault<V: View<u8> + Drop>(bench: Bench<V>, how: u8, name: &[u8]) -> Result<Bench<V>, Halt>
     requires { Good V.sense bench.roots.0 bench.stack bench.view }
     ensures { IfOk result (λ b. Good V.sense b.roots.0 b.stack b.view) }

@@ -123,8 +123,8 @@ fn inserts_in_three<V: View<u8> + Peek + Drop>(bench: Bench<V>) -> Result<bool, 
     }
 }
 
-/// Whatever allocation fails, the list is as it was once the step was taken back. `rt try --test --fail-alloc` fails each in
-/// turn.
+/// Whatever allocation fails, the list is as it was once the step was taken back. `rt try --test --fail-alloc` fails
+/// each in turn.
 #[test]
 fn inserts_or_undoes(rt: HostRuntime) -> Tested {
     let alloc = rt.alloc();
