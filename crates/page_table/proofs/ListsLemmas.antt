@@ -10,6 +10,11 @@ use Rattle.page_table.specs.inner.Spreading.{HasWords, Spread}
 use Rattle.page_table.proofs.Spans.{put_here, same_at_all, in_or_out, over_in, over_out, over_itself, word_at-replicate}
 use Rattle.page_table.proofs.SheetLemmas.{push_seen}
 
+-- pages in memory, by their parts
+abbrev pub lists : List ℕ → List (List (Option (List ℕ))) → List Shelf → ℕ → Lists
+lists shared sheets shelves pages =
+    record { shared = shared; sheets = sheets; shelves = shelves; pages = pages }
+
 -- a segment that had the words of a span still has them
 pub has_words_later : (k i place n : ℕ) (f : ℕ → ℕ) (old new : List (List (Option (List ℕ))))
     → HasWords k place n f old → Spread i place n f old new → HasWords k place n f new
@@ -106,6 +111,18 @@ pub share_of : (k place n : ℕ) (g h : ℕ → ℕ) (sheets : List (List (Optio
 share_of k place n g h sheets x within read e = e
     ∙ ap (λ z. over place n (word_over z g) g) (read_sheet sheets k x within read)
 
+-- the words of segment k, from a read of its pages, were put below, and from there into every segment's pages
+pub pushed_words : (k place n : ℕ) (s : Lists) (shared now : List ℕ) (x : List (Option (List ℕ)))
+    (sheets : List (List (Option (List ℕ)))) → k < length s.sheets → x ≡ get_or s.sheets k x
+    → word_at shared ≡ over place n (word_over (sheet_in x) (word_at s.shared)) (word_at s.shared)
+    → length shared ≡ length s.shared → now ≡ shared
+    → Spread (length s.sheets) place n (word_at now) s.sheets sheets
+    → table_of (lists shared sheets s.shelves s.pages) ≡ after_push k place n (table_of s)
+pushed_words k place n s shared now x sheets within read words len same spread =
+    pushed k place n s (lists shared sheets s.shelves s.pages)
+    (subst (λ z. Spread (length s.sheets) place n (word_at z) s.sheets sheets) same spread)
+    (share_of k place n (word_at s.shared) (word_at shared) s.sheets x within read words) len refl refl
+
 -- ---- words that are put
 
 -- pages of which segment k has others, with the words f and a page of the same numbers
@@ -150,6 +167,21 @@ two_put k place v w t = λ i. record t { word = words i }
       | inl h ↦ rw h.0 (ap (put (place + 1) w) (sym (put_here k k (put place v (t.word k)) t.word refl)))
       | inr h ↦ rw h.0 refl
     ])
+
+-- so for segment k, from a read of its pages
+pub two_put_in : (k place v w : ℕ) (x y : List (Option (List ℕ))) (s : Lists) → k < length s.sheets
+    → x ≡ get_or s.sheets k x
+    → ((below : ℕ → ℕ) → word_over (sheet_in y) below ≡ put (place + 1) w (put place v (word_over (sheet_in x) below)))
+    → has_page (sheet_in y) ≡ has_page (sheet_in x)
+    → table_of (record s { sheets = set s.sheets k y })
+    ≡ after_write k (place + 1) w (after_write k place v (table_of s))
+two_put_in k place v w x y s within read words own =
+    let here = read_sheet s.sheets k x within read in
+    sheet_put k y (put (place + 1) w (put place v (word_over (sheet_at s.sheets k) (word_at s.shared)))) s within
+    (words (word_at s.shared)
+    ∙ ap (λ (z : Sheet). put (place + 1) w (put place v (word_over z (word_at s.shared)))) here)
+    (own ∙ ap (λ (z : Sheet). has_page z) here)
+    ∙ two_put k place v w (table_of s)
 
 -- ---- extents
 

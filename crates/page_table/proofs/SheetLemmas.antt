@@ -46,6 +46,12 @@ pub has_no_none : (sheet : Sheet) (q : ℕ) → sheet q ≡ None → has_page sh
 unfolding has_page
 has_no_none sheet q e has = let k : false ≡ true = sym (ap is_some e) ∙ has in cc
 
+-- a page of a segment's own is there, by a read of it
+pub page_there : (pages : List (Option (List ℕ))) (q : ℕ) (x : Option (List ℕ)) → has_page (sheet_in pages) q ≡ true
+    → x ≡ get_or pages q x → x ≡ None → ⊥
+page_there pages q x has read none =
+    has_no_none (sheet_in pages) q (read_page pages q x (has_within pages q has) read ∙ none) has
+
 pub lacks_page : (sheet : Sheet) (q : ℕ) → has_page sheet q ≡ false → sheet q ≡ None
 unfolding has_page
 lacks_page sheet q e = go (sheet q) e
@@ -68,6 +74,21 @@ pub own_changed : (sheet : Sheet) (q : ℕ) (old page : List ℕ) → sheet q �
 unfolding has_page
 own_changed sheet q old page was =
     same_at_all _ _ (λ r. elim (eqb_tells r q) [ inl h ↦ rw (h.0, h.1, was) refl | inr h ↦ rw h.0 refl ])
+
+-- a page of a segment's own that is another now, from a read of it
+pub record PageChanged (pages : List (Option (List ℕ))) (q : ℕ) (old page : List ℕ) : Type 0 where
+  pub was : sheet_in pages q ≡ Some old
+  pub sheet : sheet_in (set pages q (Some page)) ≡ put q (Some page) (sheet_in pages)
+  pub own : has_page (sheet_in (set pages q (Some page))) ≡ has_page (sheet_in pages)
+
+pub page_changed : (pages : List (Option (List ℕ))) (q : ℕ) (x : Option (List ℕ)) (old page : List ℕ)
+    → has_page (sheet_in pages) q ≡ true → x ≡ get_or pages q x → x ≡ Some old → PageChanged pages q old page
+page_changed pages q x old page has read is =
+    let within = has_within pages q has in
+    let was : sheet_in pages q ≡ Some old = read_page pages q x within read ∙ is in
+    let sheet : sheet_in (set pages q (Some page)) ≡ put q (Some page) (sheet_in pages) =
+    sheet_in-set pages q (Some page) within in
+    record { was = was; sheet = sheet; own = ap has_page sheet ∙ own_changed (sheet_in pages) q old page was }
 
 -- the word at a place that is in page q, and at one that isn't
 pub word_of_page : (sheet : Sheet) (below : ℕ → ℕ) (p : ℕ) (o : Option (List ℕ)) → sheet (p / 512) ≡ o

@@ -1,6 +1,6 @@
 -- How many extents of a class are in use, how many were at most, and what the words that were taken come to over a run
--- of
--- calls. States `docs/HEAP.md`, "Pages".
+-- of calls.
+-- States `docs/HEAP.md`, "Pages".
 use Rattle.std.specs.Prelude.{◌≡◌, ℕ, ◌+◌, ◌-◌, ◌<◌, ◌≤◌, max, List, [], ◌∷◌, length, Result, Ok}
 use Rattle.seg_store.specs.declared.store.StoreFault.{StoreFault}
 use Rattle.seg_store.specs.Extents.{words_in}

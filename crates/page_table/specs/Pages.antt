@@ -1,6 +1,6 @@
 -- A table of pages: words that segments share, each segment's own words over them, and extents by class; and what each
--- call
--- that changes words leaves. States `docs/HEAP.md`, "Pages".
+-- call that changes words leaves.
+-- States `docs/HEAP.md`, "Pages".
 use Rattle.std.specs.Prelude.{◌≡◌, ℕ, ◌+◌, ◌*◌, ◌/◌, ◌%◌, ◌^◌, ◌<◌, ◌≤◌, Bool, true, false, cond, ◌&&◌, eqb, ltb, leb, List, [], length, get_or}
 use Rattle.seg_store.specs.Extents.{words_in}
 

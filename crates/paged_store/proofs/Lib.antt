@@ -48,7 +48,6 @@ pub mod LeaveLemmas
 pub mod PairWrites
 pub mod DropWrites
 pub mod FillWrites
-pub mod PlacedWords
 pub mod OverLemmas
 pub mod SegmentDrafts
 pub mod FineLemmas

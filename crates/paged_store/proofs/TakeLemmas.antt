@@ -8,7 +8,7 @@ use Rattle.paged_store.specs.declared.extent.Extent.{Extent}
 use Rattle.paged_store.specs.Words.{in_span}
 use Rattle.paged_store.specs.inner.Paged.{in_extents}
 use Rattle.paged_store.specs.inner.Claiming.{Claims}
-use Rattle.paged_store.specs.inner.Ending.{ExtentsLie, HaveClasses, IsRun, HaveRoom, GivenBack}
+use Rattle.paged_store.specs.inner.Ending.{ExtentsLie, HaveClasses, LieSideBySide, HaveRoom, GivenBack}
 use Rattle.paged_store.specs.inner.Taking.{OwnExtents, Takes}
 use Rattle.paged_store.specs.inner.Writing.{Desk, Opened, OwnSpan}
 use Rattle.paged_store.proofs.ClaimLemmas.{claims_back, room_claimed}
@@ -22,7 +22,7 @@ opened_then a b c o p = record {
 }
 
 pub own_run_step : (k from to place words end : ℕ) (xs : List Extent) (t u : Table) →
-    IsRun end xs from to place words → OwnExtents k (take from xs) t → Opened t u → OwnSpan k place words u →
+    LieSideBySide end xs from to place words → OwnExtents k (take from xs) t → Opened t u → OwnSpan k place words u →
     OwnExtents k (take to xs) u
 own_run_step k from to place words end xs t u run own o here p h =
     elim (or_cases (in_extents (take from xs) p) (in_span place words p)

@@ -38,7 +38,8 @@ pub(crate) fn fill_index(pages: &mut Pages, k: u8, d: u32)
 {
     pages.known();
     let seen = Seen::Segment(k);
-    let (place, n) = slots(pages, seen, d);
+    let first = pages.word(k, 2 * d);
+    let (place, n) = slots(pages, seen, d, first);
     let count = len(pages, seen, d) / 2;
     'pairs: for m in 0..count {
         enter(pages, k, d, place, n, m);

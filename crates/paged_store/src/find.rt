@@ -10,7 +10,7 @@ ghost use Rattle.paged_store.specs.inner.Indexed.{IsIndexed};
 ghost use Rattle.paged_store.specs.inner.Sight.{words_seen, record_seen, IsSeen, CanRead, SameWords, OtherWords, IsText, IsKeySeen, KeysSeen, KnowsKeys, heap_seen};
 
 use crate::hash::home;
-use crate::index::slots_by;
+use crate::index::slots;
 use crate::sight::{Seen, head_words, layout, run, two_words, value, word, word_in};
 use crate::value::{known_value, payload, tag};
 use dict_index::slots::next;
@@ -209,7 +209,7 @@ pub fn find_key(pages: &Pages, seen: Seen, d: u32, key: Value) -> Option<usize>
     if let Some(pair) = pair_by_record(pages, seen, d, body, pairs, key) {
         return Some(pair);
     }
-    let (place, n) = slots_by(pages, seen, d, first);
+    let (place, n) = slots(pages, seen, d, first);
     let start = home(pages, seen, key, n);
     let mut at = start;
     'slots: for j in 0..n {

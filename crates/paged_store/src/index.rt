@@ -19,7 +19,7 @@ use page_table::Pages;
 use py_data::Value;
 
 /// Where the index of a dictionary begins, and how many slots it has, by the first word of its header.
-pub(crate) fn slots_by(pages: &Pages, seen: Seen, d: u32, first: u64) -> (u32, usize)
+pub(crate) fn slots(pages: &Pages, seen: Seen, d: u32, first: u64) -> (u32, usize)
     requires there { CanRead (table_of pages.now) seen d }
     requires kind { (record_seen (table_of pages.now) seen d).kind ≡ Dict }
     requires first { first ≡ words_seen (table_of pages.now) seen (2 * d) }
@@ -35,22 +35,6 @@ pub(crate) fn slots_by(pages: &Pages, seen: Seen, d: u32, first: u64) -> (u32, u
     let place = word(pages, seen, 2 * d + 3) as u32;
     let size = size_of(Header::of(first).index);
     (place, size as usize)
-}
-
-/// The same, where that word isn't read yet.
-pub(crate) fn slots(pages: &Pages, seen: Seen, d: u32) -> (u32, usize)
-    requires there { CanRead (table_of pages.now) seen d }
-    requires kind { (record_seen (table_of pages.now) seen d).kind ≡ Dict }
-    requires extent { let w = words_seen (table_of pages.now) seen in
-        index_by w d + index_size w d ≤ (table_of pages.now).reserved }
-    ensures place { result.0 ≡ index_by (words_seen (table_of pages.now) seen) d }
-    ensures size { result.1 ≡ index_size (words_seen (table_of pages.now) seen) d }
-    ensures within { result.0 + result.1 ≤ (table_of pages.now).reserved }
-    ensures room { pairs_by (words_seen (table_of pages.now) seen) d < result.1 }
-    ensures most { result.1 ≤ 2 ^ 20 }
-{
-    pages.known();
-    slots_by(pages, seen, d, word(pages, seen, 2 * d))
 }
 
 /// The first empty slot from a slot on, of `n` from a place on.
@@ -85,7 +69,8 @@ pub(crate) fn free_slot(pages: &Pages, seen: Seen, d: u32, key: Value) -> u32
     ensures { FreeSlot (words_seen (table_of pages.now) seen) d key result }
 {
     pages.known();
-    let (place, n) = slots(pages, seen, d);
+    let first = word(pages, seen, 2 * d);
+    let (place, n) = slots(pages, seen, d, first);
     let start = home(pages, seen, key, n);
     place + empty_slot(pages, seen, place, n, start) as u32
 }

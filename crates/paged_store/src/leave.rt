@@ -120,7 +120,8 @@ pub(crate) fn leave_index(pages: &mut Pages, k: u8, d: u32, pair: usize)
         (words_from ((table_of pages.new).word k) (index_by w d)) (pairs_by w d - 1) }
 {
     pages.known();
-    let (place, n) = slots(pages, Seen::Segment(k), d);
+    let first = pages.word(k, 2 * d);
+    let (place, n) = slots(pages, Seen::Segment(k), d, first);
     close(pages, k, d, place, n, pair);
     lower(pages, k, place, n, pair as u64 + 1);
 }

@@ -2,7 +2,7 @@
 ghost use Rattle.std.specs.Prelude.{◌≡◌, ◌<◌, length};
 ghost use Rattle.page_table.specs.Lists.{table_of};
 ghost use Rattle.paged_store.specs.inner.Paged.{in_spans, in_extents, rewound};
-ghost use Rattle.paged_store.specs.inner.Ending.{SpansLie, ExtentsLie, HaveClasses, IsRun, NotesLie, HaveRoom, pushes, restores, with_words, GivenBack};
+ghost use Rattle.paged_store.specs.inner.Ending.{SpansLie, ExtentsLie, HaveClasses, LieSideBySide, NotesLie, HaveRoom, pushes, restores, with_words, GivenBack};
 
 use crate::extent::{Extent, Note, Span};
 use page_table::Pages;
@@ -13,7 +13,7 @@ pub fn run_of(pages: &Pages, extents: &[Extent], from: usize) -> (usize, Span)
     requires lie { ExtentsLie (table_of pages.now).reserved extents.now }
     requires classes { HaveClasses extents.now }
     requires from { from < length extents.now }
-    ensures { IsRun (table_of pages.now).reserved extents.now from result.0 result.1.place result.1.words }
+    ensures { LieSideBySide (table_of pages.now).reserved extents.now from result.0 result.1.place result.1.words }
 {
     pages.known();
     let place = extents[from].place;

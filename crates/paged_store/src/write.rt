@@ -180,7 +180,8 @@ pub(crate) fn drop_pair(
         Refused k (leave_places w d place) (desk pages.old draft.old) (desk pages.new draft.new)) }
 {
     pages.known();
-    let (index, n) = slots(pages, Seen::Segment(k), d);
+    let first = pages.word(k, 2 * d);
+    let (index, n) = slots(pages, Seen::Segment(k), d, first);
     let count = pages.word(k, 2 * d + 1) as u32 - 2;
     let to = body_place(pages, k, d) + 4 * place;
     let moved = 2 * count - 4 * place;

@@ -1,7 +1,7 @@
 -- The frame of a call fits, and to bind arguments takes looks alone.
-use Rattle.std.proofs.Common.{arith, ◌≡◌, ℕ, suc, ◌+◌, ◌-◌, ◌<◌, ◌≤◌, ◌&&◌, Bool, true, false, cond, leb, List, [], ◌∷◌, ◌++◌, length, map, drop, Some, None, refl, sym, ap, subst, ◌∙◌, lit<}
+use Rattle.std.proofs.Common.{arith, ◌≡◌, ℕ, suc, ◌+◌, ◌-◌, ◌<◌, ◌≤◌, Bool, true, false, cond, leb, List, [], ◌∷◌, ◌++◌, length, map, drop, Some, None, refl, sym, ap, subst, ◌∙◌, lit<}
 use Rattle.std.specs.Str.{bytes_eq}
-use Rattle.std.proofs.lemmas.Bool.{leb-true}
+use Rattle.std.proofs.lemmas.Bool.{and_parts, leb-true}
 use Rattle.std.proofs.lemmas.List.{length-append, length-drop, length-take-le}
 use Rattle.py_base.specs.declared.kind.Kind.TheVariants.{Function}
 use Rattle.py_data.specs.declared.value.Value.{Value}
@@ -97,10 +97,6 @@ pub record AreGiven (h : Heap) (g : Given) : Type 0 where
   pub args : Every (Refers h) g.args
   pub values : Every (Refers h) g.values
 
-and_left : (a b : Bool) → (a && b) ≡ true → a ≡ true
-and_left true b e = refl
-and_left false b e = e
-
 module _ (p : Program) (h : Heap) (g : Given) (n : ℕ) (ds : List Value) where
   abbrev c : Code
   c = code_at p n
@@ -117,8 +113,8 @@ module _ (p : Program) (h : Heap) (g : Given) (n : ℕ) (ds : List Value) where
           IsGot (IsEntry p) (cond b (Is (entered n (bound_slots c g.args keys g.values ds))) (Raise argument_fault)) h
       by true e =
           let few = leb-true (length g.args) c.params
-          (and_left (leb (length g.args) c.params)
-          (are_filled (drop (length g.args) (parameters c)) keys (length ds)) e) in
+          (and_parts (leb (length g.args) c.params)
+          (are_filled (drop (length g.args) (parameters c)) keys (length ds)) e).0 in
           let long = slots_long c g.args keys g.values ds few (right_at p n right l).slotted in (
             started_fits p h n (bound_slots c g.args keys g.values ds) Unset None right l some long
                 (slots_held h c g.args keys g.values ds given.args given.values held) tt

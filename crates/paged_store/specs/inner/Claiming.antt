@@ -1,5 +1,5 @@
--- Extents that are claimed for a record, and claims that are refused. What code and proofs say to each other:
--- nothing public rests on it.
+-- Extents that are claimed for a record, and claims that are refused.
+-- What code and proofs say to each other: nothing public rests on it.
 use Rattle.std.specs.Prelude.{◌≡◌, ℕ, ◌+◌, ◌^◌, ◌<◌, ◌≤◌, Bool, cond, ◌&&◌, eqb, ltb, leb, max, List, [], ◌∷◌, length}
 use Rattle.seg_store.specs.declared.store.StoreFault.{StoreFault}
 use Rattle.seg_store.specs.declared.store.StoreFault.TheVariants.{Full, OutOfMemory}

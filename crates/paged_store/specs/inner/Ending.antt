@@ -1,6 +1,5 @@
--- What is done to a table and to the books of a store where a step is taken back, and where a transaction ends. What
--- code
--- and proofs say to each other: nothing public rests on it.
+-- What is done to a table and to the books of a store where a step is taken back, and where a transaction ends.
+-- What code and proofs say to each other: nothing public rests on it.
 use Rattle.std.specs.Prelude.{◌≡◌, ℕ, ◌+◌, ◌/◌, ◌<◌, ◌≤◌, Bool, true, false, cond, ◌||◌, List, length, get_or, take, drop, Option, None}
 use Rattle.py_data.specs.Sight.{mem}
 use Rattle.page_table.specs.Pages.{Table, Lies}
@@ -25,7 +24,7 @@ HaveClasses xs = (i : ℕ) (x : Extent) → i < length xs → (1 ≤ (get_or xs 
 
 -- The extents of a list from one number up to another lie side by side: their places are those of so many words from a
 -- place on.
-pub record IsRun (end : ℕ) (xs : List Extent) (from to place words : ℕ) : Type 0 where
+pub record LieSideBySide (end : ℕ) (xs : List Extent) (from to place words : ℕ) : Type 0 where
   pub more : from < to
   pub most : to ≤ length xs
   pub within : place + words ≤ end

@@ -1,6 +1,5 @@
--- When a header and its extents fit each other, and to which record each place belongs. What code and proofs say to
--- each
--- other: nothing public rests on it.
+-- When a header and its extents fit each other, and to which record each place belongs.
+-- What code and proofs say to each other: nothing public rests on it.
 use Rattle.std.specs.Prelude.{◌≡◌, ℕ, ◌+◌, ◌*◌, ◌/◌, ◌%◌, ◌^◌, ◌<◌, ◌≤◌, Bool, true, cond, FitsSigned}
 use Rattle.std.specs.Int.{w64}
 use Rattle.py_base.specs.declared.kind.Kind.{Kind}

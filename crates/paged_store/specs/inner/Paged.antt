@@ -1,5 +1,5 @@
--- The fields of a paged store, and the state that they stand for. What code and proofs say to each other:
--- nothing public rests on it.
+-- The fields of a paged store, and the state that they stand for.
+-- What code and proofs say to each other: nothing public rests on it.
 use Rattle.std.specs.Prelude.{◌≡◌, ℕ, zero, suc, ◌+◌, ◌*◌, ◌/◌, ◌^◌, ◌<◌, ◌≤◌, Bool, true, false, cond, ◌||◌, eqb, List, [], ◌∷◌, length, take, drop, get_or, slice_get, Option, Some, None}
 use Rattle.py_data.specs.Collection.{places}
 use Rattle.py_data.specs.Heap.{Marks}

@@ -1,5 +1,5 @@
--- What is written on a segment's desk: its pages and its draft. What code and proofs say to each other:
--- nothing public rests on it.
+-- What is written on a segment's desk: its pages and its draft.
+-- What code and proofs say to each other: nothing public rests on it.
 use Rattle.std.specs.Prelude.{◌≡◌, ◌≢◌, ℕ, ◌+◌, ◌-◌, ◌*◌, ◌/◌, ◌<◌, ◌≤◌, ◌⊎◌, Bool, true, ◌||◌, false, cond, List, [], ◌∷◌, ◌++◌, length, get_or}
 use Rattle.page_table.specs.Pages.{Table, put}
 use Rattle.page_table.specs.Lists.{Lists, table_of}

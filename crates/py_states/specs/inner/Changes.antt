@@ -1,5 +1,5 @@
 -- Changes of the innermost frame, and where an exception goes.
--- What code and proofs say to each other; nothing public rests on it.
+-- What code and proofs say to each other: nothing public rests on it.
 use Rattle.std.specs.Prelude.{◌≡◌, ◌≢◌, ℕ, ◌+◌, Bool, true, false, List, [], ◌∷◌, ◌++◌, take, Option, Some, None}
 use Rattle.py_data.specs.declared.value.Value.{Value}
 use Rattle.py_frames.specs.declared.state.Block.{Block}

@@ -1,6 +1,6 @@
 -- How frames lie in memory: the values of all frames one behind the other, those of the innermost frame last, and in
 -- the same way their blocks.
--- What code and proofs say to each other; nothing public rests on it.
+-- What code and proofs say to each other: nothing public rests on it.
 use Rattle.std.specs.Prelude.{◌≡◌, ℕ, ◌+◌, ◌≤◌, List, [], ◌∷◌, ◌==◌, cond, length, take, drop, Option, Some, None}
 use Rattle.py_data.specs.declared.value.Value.{Value}
 use Rattle.py_frames.specs.declared.state.Block.{Block}

@@ -36,7 +36,8 @@ returns c = fill_is c.args.k c.args.a c.args.body c.args.index (table_of c.args.
     c.as_slice.result.now c.as_slice-2.result.now _ _ _ _ _ c.word.ensures c.length_of.ensures c.size_of.ensures
     c.as_slice.ensures c.as_slice-2.ensures
     (fill_puts c.args.k c.args.a c.args.body c.args.index (table_of c.args.pages.now) (table_of c.put_values.new.pages)
-    (table_of c.put_bytes.new.pages) (table_of c.clear_words.new.pages) (table_of c.put_header.new.pages) c.word.result c.length_of.result c.size_of.result c.as_slice.result.now
+    (table_of c.put_bytes.new.pages) (table_of c.clear_words.new.pages) (table_of c.put_header.new.pages) c.word.result
+    c.length_of.result c.size_of.result c.as_slice.result.now
     c.as_slice-2.result.now c.put_values.ensures c.put_bytes.ensures c.clear_words.ensures c.put_header.ensures)
 
 pub put_values-requires-clause-even : goal.put_values-requires-clause-even

@@ -39,10 +39,10 @@ returns-then-pairs-eq0-clause-heap c =
 
 pub returns-then-word-eq0-clause-found : goal.returns-then-word-eq0-clause-found
 returns-then-word-eq0-clause-found c =
-    key_nowhere _ c.args.d _ c.args.key c.requires.index c.slots_by-place.ensures.size c.home-start.result c.slots.j
+    key_nowhere _ c.args.d _ c.args.key c.requires.index c.slots-place.ensures.size c.home-start.result c.slots.j
     c.home-start.ensures.value c.slots.invariant.passed
-    (inr (sym (slot_word (words_seen (table_of c.args.pages.now) c.args.seen) c.args.d c.slots_by-place.result.0 _ _
-    c.slots.j c.slots.at c.word-word.result c.slots_by-place.ensures.place (c.slots.invariant.at c.slots-test.true)
+    (inr (sym (slot_word (words_seen (table_of c.args.pages.now) c.args.seen) c.args.d c.slots-place.result.0 _ _
+    c.slots.j c.slots.at c.word-word.result c.slots-place.ensures.place (c.slots.invariant.at c.slots-test.true)
     c.word-word.ensures) ∙ c.if-word-eq0.true))
 
 pub returns-then-word-eq0-clause-heap : goal.returns-then-word-eq0-clause-heap
@@ -52,8 +52,8 @@ returns-then-word-eq0-clause-heap c =
 -- a word that isn't empty is the number of a pair
 inside : (c : goal.Else-word-eq0) →
     c.word-word.result - 1 < length (record_seen (table_of c.args.pages.now) c.args.seen c.args.d).values / 2
-inside c = pair_there _ c.args.d _ c.args.key c.requires.index c.slots_by-place.ensures.size
-    c.slots_by-place.result.0 c.slots.at c.word-word.result c.slots_by-place.ensures.place c.slots.invariant.within
+inside c = pair_there _ c.args.d _ c.args.key c.requires.index c.slots-place.ensures.size
+    c.slots-place.result.0 c.slots.at c.word-word.result c.slots-place.ensures.place c.slots.invariant.within
     c.word-word.ensures c.if-word-eq0.false
 
 -- whose key stands within what is reserved
@@ -77,19 +77,19 @@ value-requires-clause-even c = key_even _ _ c.args.d c.head_words-first.result.2
 
 pub same-requires-clause-first : goal.same-requires-clause-first
 same-requires-clause-first c =
-    let read = pair_read _ c.args.d _ c.args.key c.requires.index c.slots_by-place.ensures.size _
-    c.head_words-first.result.2 c.slots_by-place.result.0 c.slots.at c.word-word.result c.value.result
-    c.requires.there.stands c.head_words-first.ensures.body c.slots_by-place.ensures.place c.slots.invariant.within
+    let read = pair_read _ c.args.d _ c.args.key c.requires.index c.slots-place.ensures.size _
+    c.head_words-first.result.2 c.slots-place.result.0 c.slots.at c.word-word.result c.value.result
+    c.requires.there.stands c.head_words-first.ensures.body c.slots-place.ensures.place c.slots.invariant.within
     c.word-word.ensures c.if-word-eq0.false c.value.ensures in
     key_seen _ _ _ (c.word-word.result - 1) _ c.requires.keys read.0 read.1
 
 pub returns-then-same-clause-found : goal.returns-then-same-clause-found
 returns-then-same-clause-found c =
-    let read = pair_read _ c.args.d _ c.args.key c.requires.index c.slots_by-place.ensures.size _
-    c.head_words-first.result.2 c.slots_by-place.result.0 c.slots.at c.word-word.result c.value.result
-    c.requires.there.stands c.head_words-first.ensures.body c.slots_by-place.ensures.place c.slots.invariant.within
+    let read = pair_read _ c.args.d _ c.args.key c.requires.index c.slots-place.ensures.size _
+    c.head_words-first.result.2 c.slots-place.result.0 c.slots.at c.word-word.result c.value.result
+    c.requires.there.stands c.head_words-first.ensures.body c.slots-place.ensures.place c.slots.invariant.within
     c.word-word.ensures c.if-word-eq0.false c.value.ensures in
-    pair_found _ c.args.d _ c.args.key c.requires.index c.slots_by-place.ensures.size c.word-word.result c.value.result
+    pair_found _ c.args.d _ c.args.key c.requires.index c.slots-place.ensures.size c.word-word.result c.value.result
     read.1 c.requires.pairs c.requires.differ read.0 (sym c.same.ensures ∙ c.if-same.true)
 
 pub returns-then-same-clause-heap : goal.returns-then-same-clause-heap
@@ -98,24 +98,24 @@ returns-then-same-clause-heap c =
 
 pub slots-preserved : goal.slots-preserved
 slots-preserved c =
-    let read = pair_read _ c.args.d _ c.args.key c.requires.index c.slots_by-place.ensures.size _
-    c.head_words-first.result.2 c.slots_by-place.result.0 c.slots.at c.word-word.result c.value.result
-    c.requires.there.stands c.head_words-first.ensures.body c.slots_by-place.ensures.place c.slots.invariant.within
+    let read = pair_read _ c.args.d _ c.args.key c.requires.index c.slots-place.ensures.size _
+    c.head_words-first.result.2 c.slots-place.result.0 c.slots.at c.word-word.result c.value.result
+    c.requires.there.stands c.head_words-first.ensures.body c.slots-place.ensures.place c.slots.invariant.within
     c.word-word.ensures c.if-word-eq0.false c.value.ensures in
     record {
-      at = λ l. walks_on c.slots_by-place.result.1 c.home-start.result c.slots.j c.slots.at c.next-at.result
+      at = λ l. walks_on c.slots-place.result.1 c.home-start.result c.slots.j c.slots.at c.next-at.result
           c.home-start.ensures.within (c.slots.invariant.at c.slots-test.true) c.next-at.ensures l;
-      within = next_within c.slots_by-place.result.1 c.slots.at c.next-at.result c.slots.invariant.within
+      within = next_within c.slots-place.result.1 c.slots.at c.next-at.result c.slots.invariant.within
           c.next-at.ensures;
-      passed = pair_compared _ c.args.d _ c.args.key c.requires.index c.slots_by-place.ensures.size
-          c.slots_by-place.result.0 c.slots.at c.word-word.result c.home-start.result c.slots.j c.value.result
-          c.slots_by-place.ensures.place (c.slots.invariant.at c.slots-test.true) c.word-word.ensures read.1
+      passed = pair_compared _ c.args.d _ c.args.key c.requires.index c.slots-place.ensures.size
+          c.slots-place.result.0 c.slots.at c.word-word.result c.home-start.result c.slots.j c.value.result
+          c.slots-place.ensures.place (c.slots.invariant.at c.slots-test.true) c.word-word.ensures read.1
           c.if-word-eq0.false (sym c.same.ensures ∙ c.if-same.false) c.slots.invariant.passed;
     }
 
 pub returns-clause-found : goal.returns-clause-found
 returns-clause-found c =
-    key_nowhere _ c.args.d _ c.args.key c.requires.index c.slots_by-place.ensures.size c.home-start.result c.slots.j
+    key_nowhere _ c.args.d _ c.args.key c.requires.index c.slots-place.ensures.size c.home-start.result c.slots.j
     c.home-start.ensures.value c.slots.invariant.passed
     (inl (omega (arith, c.slots.auto.j-end, c.slots-test.false)))
 

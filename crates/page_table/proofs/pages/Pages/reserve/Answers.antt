@@ -2,18 +2,13 @@ use Rattle.std.proofs.Common.{◌≡◌, ◌<◌, length, inl, sym, ◌∙◌, a
 use Rattle.page_table.specs.Pages.{Shelf}
 use Rattle.page_table.specs.Lists.{Lists, shelf_at, table_of}
 use Rattle.page_table.proofs.Keeping.{again_keeps}
-use Rattle.page_table.proofs.ListsLemmas.{read_shelf, took_again}
+use Rattle.page_table.proofs.ListsLemmas.{lists, read_shelf, took_again}
 use Rattle.page_table.proofs.pages.Pages.reserve.Goals as goal
 
 pub returns-else-is_empty-clause-extent : goal.returns-else-is_empty-clause-extent
 returns-else-is_empty-clause-extent c =
-    let s : Lists = record {
-      shared = c.self.inside.shared.items;
-      sheets = c.self.inside.sheets.items;
-      shelves =
-          c.self.inside.shelves.items;
-      pages = c.self.inside.pages;
-    } in
+    let s : Lists = lists c.self.inside.shared.items c.self.inside.sheets.items c.self.inside.shelves.items
+    c.self.inside.pages in
     let within : c.args.class < length c.self.inside.shelves.items =
     omega (arith, c.self.invariant.shelves, c.requires.class.1) in
     let read : c.index_mut.result.now ≡ shelf_at c.self.inside.shelves.items c.args.class =
@@ -25,13 +20,8 @@ returns-else-is_empty-clause-extent c =
 
 pub returns-else-is_empty-clause-lies : goal.returns-else-is_empty-clause-lies
 returns-else-is_empty-clause-lies c =
-    let s : Lists = record {
-      shared = c.self.inside.shared.items;
-      sheets = c.self.inside.sheets.items;
-      shelves =
-          c.self.inside.shelves.items;
-      pages = c.self.inside.pages;
-    } in
+    let s : Lists = lists c.self.inside.shared.items c.self.inside.sheets.items c.self.inside.shelves.items
+    c.self.inside.pages in
     let within : c.args.class < length c.self.inside.shelves.items =
     omega (arith, c.self.invariant.shelves, c.requires.class.1) in
     let read : c.index_mut.result.now ≡ shelf_at c.self.inside.shelves.items c.args.class =

@@ -1,6 +1,6 @@
-use Rattle.std.proofs.Common.{◌≡◌, ◌/◌, ◌∙◌, ap, true, arith}
-use Rattle.page_table.specs.Lists.{sheet_in, has_page, word_over}
-use Rattle.page_table.proofs.SheetLemmas.{sheet_in-set, read_page, has_within, has_no_none, own_changed, words_put}
+use Rattle.std.proofs.Common.{◌/◌, ◌∙◌, ap, arith}
+use Rattle.page_table.specs.Lists.{sheet_in, word_over}
+use Rattle.page_table.proofs.SheetLemmas.{has_within, page_there, PageChanged, page_changed, words_put}
 use Rattle.page_table.proofs.sheet.Sheet.set.Goals as goal
 
 pub index_mut-requires : goal.index_mut-requires
@@ -12,31 +12,21 @@ index_mut-requires c =
     )
 
 pub unreachable-requires : goal.unreachable-requires
-unreachable-requires c =
-    let has : has_page (sheet_in c.self.inside.pages.items) (c.args.place / 512) ≡ true =
-    rw c.self.view_is c.requires in
-    has_no_none (sheet_in c.self.inside.pages.items) (c.args.place / 512)
-    (read_page c.self.inside.pages.items (c.args.place / 512) c.index_mut.result.now
-    (has_within c.self.inside.pages.items (c.args.place / 512) has) c.index_mut.ensures.value ∙ c.in-None.is) has
+unreachable-requires c = page_there c.self.inside.pages.items (c.args.place / 512) c.index_mut.result.now
+    (rw c.self.view_is c.requires) c.index_mut.ensures.value c.in-None.is
 
 pub returns-clause-words : goal.returns-clause-words
 returns-clause-words c =
-    let has : has_page (sheet_in c.self.inside.pages.items) (c.args.place / 512) ≡ true =
-    rw c.self.view_is c.requires in
-    let within = has_within c.self.inside.pages.items (c.args.place / 512) has in
+    let k : PageChanged c.self.inside.pages.items (c.args.place / 512) c.in-Some.page c.set.new.self =
+    page_changed c.self.inside.pages.items (c.args.place / 512) c.index_mut.result.now c.in-Some.page
+    c.set.new.self (rw c.self.view_is c.requires) c.index_mut.ensures.value c.in-Some.is in
     rw (← c.self.view_is)
-    (λ below. ap (λ s. word_over s below) (sheet_in-set c.self.inside.pages.items (c.args.place / 512) _ within)
-    ∙ words_put (sheet_in c.self.inside.pages.items) c.args.place c.args.w c.in-Some.page c.set.new.self below
-    (read_page c.self.inside.pages.items
-    (c.args.place / 512) c.index_mut.result.now within c.index_mut.ensures.value ∙ c.in-Some.is) c.set.ensures)
+    (λ below. ap (λ s. word_over s below) k.sheet ∙ words_put (sheet_in c.self.inside.pages.items) c.args.place c.args.w
+    c.in-Some.page c.set.new.self below k.was c.set.ensures)
 
 pub returns-clause-own : goal.returns-clause-own
 returns-clause-own c =
-    let has : has_page (sheet_in c.self.inside.pages.items) (c.args.place / 512) ≡ true =
-    rw c.self.view_is c.requires in
-    let within = has_within c.self.inside.pages.items (c.args.place / 512) has in
-    rw (← c.self.view_is)
-    (ap has_page (sheet_in-set c.self.inside.pages.items (c.args.place / 512) _ within)
-    ∙ own_changed (sheet_in c.self.inside.pages.items) (c.args.place / 512) c.in-Some.page _
-    (read_page c.self.inside.pages.items
-    (c.args.place / 512) c.index_mut.result.now within c.index_mut.ensures.value ∙ c.in-Some.is))
+    let k : PageChanged c.self.inside.pages.items (c.args.place / 512) c.in-Some.page c.set.new.self =
+    page_changed c.self.inside.pages.items (c.args.place / 512) c.index_mut.result.now c.in-Some.page
+    c.set.new.self (rw c.self.view_is c.requires) c.index_mut.ensures.value c.in-Some.is in
+    rw (← c.self.view_is) k.own

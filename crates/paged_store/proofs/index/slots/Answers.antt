@@ -2,7 +2,7 @@ use Rattle.std.proofs.Common.{ap, ◌∙◌, arith}
 use Rattle.paged_store.specs.Words.{size_of, index_class_in}
 use Rattle.paged_store.proofs.HeadWords.{formed_small}
 use Rattle.paged_store.proofs.IndexLemmas.{index_most, index_room}
-use Rattle.paged_store.proofs.index.slots_by.Goals as goal
+use Rattle.paged_store.proofs.index.slots.Goals as goal
 
 pub of-requires : goal.of-requires
 of-requires c = omega (arith, c.requires.first, formed_small _ c.args.d c.requires.there.stands.formed)
