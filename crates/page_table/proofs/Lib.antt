@@ -1,6 +1,6 @@
 pub mod Spans
-pub mod SheetLemmas
-pub mod Keeping
-pub mod ListsLemmas
+mod SheetLemmas
+mod Keeping
+mod ListsLemmas
 pub mod CountingLemmas
-pub mod LayingLemmas
+mod LayingLemmas

@@ -50,11 +50,13 @@ opened_before p k j c = then_put k (step_opened (p.drafts k)) p.drafts j c
 
 pub opened_now : (p : Paged) (k j c : ℕ) → of_class c (put k (step_opened (p.drafts k)) p.drafts j).taken
     ≡ of_class c (p.drafts j).taken
-opened_now p k j c = ap (λ (g : ℕ → ℕ). g j) (put_still (λ j x. of_class c x.taken) k (step_opened (p.drafts k)) p.drafts
+opened_now p k j c = ap (λ (g : ℕ → ℕ). g j)
+    (put_still (λ j x. of_class c x.taken) k (step_opened (p.drafts k)) p.drafts
     refl)
 
 -- a record that a segment holds stands below half of the limit
-pub held_below : (p : Paged) (k a : ℕ) → Fine p → held_by (p.drafts k) a ≡ true → a < (meaning_in (state_of p)).limit / 2
+pub held_below : (p : Paged) (k a : ℕ) → Fine p → held_by (p.drafts k) a ≡ true →
+    a < (meaning_in (state_of p)).limit / 2
 unfolding meaning_in state_of
 held_below p k a f held = ∥∥₁_elim f.sound (hlevel props) (λ x. by_sound x.0 x.1.0 x.1.1)
   where

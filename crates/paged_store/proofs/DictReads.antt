@@ -80,7 +80,8 @@ module _ (s : PagedStore) (k d : ℕ) (there : Has (sees (paged_meaning s) k) d)
 
   pub dict_extent : index_by w d + index_size w d ≤ (table_of s.pages).reserved
   dict_extent =
-      let some : pairs_by w d < index_size w d = index_room w d (kind_is w d ∙ kind) ((seen_shown s k).stands d there).formed in
+      let some : pairs_by w d < index_size w d = index_room w d (kind_is w d ∙ kind)
+      ((seen_shown s k).stands d there).formed in
       let l : index_by w d + (index_size w d - 1) < (table_of s.pages).reserved =
       ∥∥₁_elim s.sound.fine.sound (hlevel props)
       (λ x. index_last x.0 x.1.0 x.1.1 (index_by w d + (index_size w d - 1))
@@ -100,7 +101,9 @@ module _ (s : PagedStore) (k d : ℕ) (there : Has (sees (paged_meaning s) k) d)
 
   -- its keys are keys, and differ
   pub dict_pairs : ArePairs (heap_seen (table_of s.pages) (Segment k)) (decode w d).values
-  dict_pairs = ∥∥₁_elim s.sound.fine.keyed (pairs_prop (heap_seen (table_of s.pages) (Segment k)) (decode w d).values) (λ q. (keys_kept q).0)
+  dict_pairs = ∥∥₁_elim s.sound.fine.keyed (pairs_prop (heap_seen (table_of s.pages) (Segment k)) (decode w d).values)
+      (λ q. (keys_kept q).0)
 
   pub dict_differs : KeysDiffer (heap_seen (table_of s.pages) (Segment k)) (decode w d).values
-  dict_differs = ∥∥₁_elim s.sound.fine.keyed (differ_prop (heap_seen (table_of s.pages) (Segment k)) (decode w d).values) (λ q. (keys_kept q).1)
+  dict_differs = ∥∥₁_elim s.sound.fine.keyed
+      (differ_prop (heap_seen (table_of s.pages) (Segment k)) (decode w d).values) (λ q. (keys_kept q).1)

@@ -47,7 +47,8 @@ module _ (s : PagedStore) (k d : ℕ) (l : k < (paged_meaning s).segments) (ther
 
   -- so any key may be looked for in it, as None
   can_find : CanFind h d NoneValue
-  can_find = subst (λ o. IfThere false o (λ r. Fits h r NoneValue)) (sym (record_is d there)) (kind_is w d ∙ kind, tt, pairs)
+  can_find = subst (λ o. IfThere false o (λ r. Fits h r NoneValue)) (sym (record_is d there))
+      (kind_is w d ∙ kind, tt, pairs)
 
   lays_by : (own role : Words) → Sound own role (state_of (paged_of s)) → (b : ℕ) → Has h b → Lays own role w b
   unfolding meaning_in state_of
@@ -99,5 +100,6 @@ module _ (s : PagedStore) (k d : ℕ) (l : k < (paged_meaning s).segments) (ther
     within = dict_extent s k d there kind;
     keys = keys_seen s k d NoneValue l can_find;
     apart = ∥∥₁_elim s.sound.fine.sound (hlevel props) (λ x. own_by x.0 x.1.0 x.1.1);
-    keys_apart = λ j. pairs_each h (KeyAvoids w (index_by w d) (index_size w d)) tt key_avoids (decode w d).values pairs j;
+    keys_apart = λ j. pairs_each h (KeyAvoids w (index_by w d) (index_size w d)) tt key_avoids
+        (decode w d).values pairs j;
   }

@@ -139,7 +139,8 @@ module _ (k d index n to moved x : ℕ) (a b : Desk) (t u new : Table)
       (λ p. ap (λ z. put_word (2 * d + 1) x (slid to moved 4 z) p) (ap over (sym same) ∙ over_is))
       (wrote_ready k (λ p. in_span index n p || with_count d to moved p) a b new all_words r all_put all_off)
 
-  pub pair_dropped : (pair : ℕ) → HasSlots k d index n a.table → to ≡ body_by (a.table.word k) d + 4 * pair → x ≡ count_by (a.table.word k) d - 2 →
+  pub pair_dropped : (pair : ℕ) → HasSlots k d index n a.table → to ≡ body_by (a.table.word k) d + 4 * pair →
+      x ≡ count_by (a.table.word k) d - 2 →
       moved ≡ 2 * x - 4 * pair → index ≡ index_by (a.table.word k) d → n ≡ index_size (a.table.word k) d →
       IsIndex (λ j. home_by (b.table.word k) d (skip pair j)) (index_size (b.table.word k) d)
       (words_from (t.word k) (index_by (b.table.word k) d)) (pairs_by (b.table.word k) d - 1) →

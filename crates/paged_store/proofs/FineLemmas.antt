@@ -68,7 +68,8 @@ pub record Went (s : State) (m : Meaning) : Type 0 where
 
 -- a store after a call of which it takes soundness to say what it means
 pub leaves_of : (p q : Paged) (s : State) (m : Meaning) → Fine p → Fits q → state_of q ≡ s →
-    ((own role : Words) → Sound own role (state_of p) → Went s m) → IsStore q.table.reserved m → IsCounted m (counts_of q)
+    ((own role : Words) → Sound own role (state_of p) → Went s m) → IsStore q.table.reserved m →
+    IsCounted m (counts_of q)
     → ∥ IsKeyed m ∥₁ → HasIndexes s → Leaves q m
 leaves_of p q s m f fits is go known counted keyed indexed = leaves_by q s m fits is
     (∥∥₁_map f.sound (λ x. let w = go x.0 x.1.0 x.1.1 in (w.own, (w.role, w.sound))))

@@ -223,7 +223,8 @@ module _ (s : PagedStore) (k a : ℕ) (l : k < (paged_meaning s).segments)
       apart = avoids_each a (there s k a l c can);
       keys_apart = keys_each (sees (paged_meaning s) k) (decode (t.word k) a).values
           (KeyAvoids (t.word k) (index_by (t.word k) a) (index_size (t.word k) a)) tt
-          (key_avoids (sees (paged_meaning s) k) (t.word k) (index_by (t.word k) a) (index_size (t.word k) a) avoids_each)
+          (key_avoids (sees (paged_meaning s) k) (t.word k) (index_by (t.word k) a)
+          (index_size (t.word k) a) avoids_each)
           pairs;
       within = may_put.within;
     };

@@ -21,7 +21,8 @@ split_byte v p =
     let q : v / (256 * p) ≡ v / 256 / p = sym (div-div-eq-div-mul v 256 p) in
     let a : v % (256 * p) + 256 * p * (v / (256 * p)) ≡ v = mod_plus v (256 * p) in
     let b : v / 256 % p + p * (v / 256 / p) ≡ v / 256 = mod_plus (v / 256) p in
-    let c : 256 * p * (v / (256 * p)) ≡ 256 * (p * (v / 256 / p)) = ap (λ z. 256 * p * z) q ∙ mul_assoc p (v / 256 / p) in
+    let c : 256 * p * (v / (256 * p)) ≡ 256 * (p * (v / 256 / p)) = ap (λ z. 256 * p * z) q ∙
+    mul_assoc p (v / 256 / p) in
     omega arith
   where
     mod_plus : (n m : ℕ) → n % m + m * (n / m) ≡ n

@@ -1,104 +1,104 @@
-pub mod FrameLemmas
-pub mod OwnerLemmas
-pub mod StateLemmas
-pub mod MemLemmas
-pub mod MeaningLemmas
-pub mod SightLemmas
-pub mod LookMoves
-pub mod StockMove
-pub mod LockMove
-pub mod RewriteLemmas
-pub mod WriteMove
-pub mod MakeMove
-pub mod FreeLemmas
-pub mod StepMoves
-pub mod DropMove
-pub mod PublishMove
-pub mod Keeping
-pub mod NewState
-pub mod SpanLemmas
-pub mod PartLemmas
-pub mod ValueWords
-pub mod HeadWords
-pub mod ListedLemmas
-pub mod ByteWords
-pub mod RecordWords
-pub mod ClassLemmas
-pub mod ChangeWords
-pub mod PushWords
-pub mod GrowWords
-pub mod MakeWords
-pub mod WordsRows
-pub mod PutWords
-pub mod DraftLemmas
-pub mod DeskLemmas
-pub mod ExtentLemmas
-pub mod PutLemmas
-pub mod WriteLemmas
-pub mod PackLemmas
-pub mod GrowWrites
-pub mod ReadLemmas
-pub mod TextLemmas
-pub mod FindLemmas
-pub mod HashLemmas
-pub mod IndexLemmas
-pub mod SlotWrites
-pub mod EnterLemmas
-pub mod LeaveLemmas
-pub mod PairWrites
-pub mod DropWrites
-pub mod FillWrites
-pub mod OverLemmas
-pub mod SegmentDrafts
-pub mod FineLemmas
-pub mod SumLemmas
-pub mod CountLemmas
-pub mod CountCalls
-pub mod KeyedLemmas
-pub mod ExtentCounts
-pub mod PeakLemmas
-pub mod HolderLemmas
-pub mod LookCalls
-pub mod LockCall
-pub mod NewCall
-pub mod StoreCalls
-pub mod SpanSteps
-pub mod GiveSteps
-pub mod BookSteps
-pub mod DraftParts
-pub mod EndLemmas
-pub mod EndCalls
-pub mod StoreEnds
-pub mod ClaimLemmas
-pub mod RiseLemmas
-pub mod WroteHands
-pub mod WriteCall
-pub mod ChangeCall
-pub mod InPlaceWords
-pub mod StoreChanges
-pub mod GoneReads
-pub mod DictReads
-pub mod StoreReads
-pub mod DictSlots
-pub mod TakeLemmas
-pub mod StandLemmas
-pub mod GrowTakes
-pub mod GrownWords
-pub mod TakeCall
-pub mod GrowCall
-pub mod GrowStore
-pub mod FitStore
-pub mod NewIndex
-pub mod GrowPair
-pub mod MakeTakes
-pub mod MadeWords
-pub mod MakeCall
-pub mod MakeIndex
-pub mod MakeStore
-pub mod IndexFrame
-pub mod ReindexLemmas
-pub mod PairIndex
-pub mod PairPlace
-pub mod SawLemmas
-pub mod IndexedLemmas
-pub mod IndexedPublish
+mod FrameLemmas
+mod OwnerLemmas
+mod StateLemmas
+mod MemLemmas
+mod MeaningLemmas
+mod SightLemmas
+mod LookMoves
+mod StockMove
+mod LockMove
+mod RewriteLemmas
+mod WriteMove
+mod MakeMove
+mod FreeLemmas
+mod StepMoves
+mod DropMove
+mod PublishMove
+mod Keeping
+mod NewState
+mod SpanLemmas
+mod PartLemmas
+mod ValueWords
+mod HeadWords
+mod ListedLemmas
+mod ByteWords
+mod RecordWords
+mod ClassLemmas
+mod ChangeWords
+mod PushWords
+mod GrowWords
+mod MakeWords
+mod WordsRows
+mod PutWords
+mod DraftLemmas
+mod DeskLemmas
+mod ExtentLemmas
+mod PutLemmas
+mod WriteLemmas
+mod PackLemmas
+mod GrowWrites
+mod ReadLemmas
+mod TextLemmas
+mod FindLemmas
+mod HashLemmas
+mod IndexLemmas
+mod SlotWrites
+mod EnterLemmas
+mod LeaveLemmas
+mod PairWrites
+mod DropWrites
+mod FillWrites
+mod OverLemmas
+mod SegmentDrafts
+mod FineLemmas
+mod SumLemmas
+mod CountLemmas
+mod CountCalls
+mod KeyedLemmas
+mod ExtentCounts
+mod PeakLemmas
+mod HolderLemmas
+mod LookCalls
+mod LockCall
+mod NewCall
+mod StoreCalls
+mod SpanSteps
+mod GiveSteps
+mod BookSteps
+mod DraftParts
+mod EndLemmas
+mod EndCalls
+mod StoreEnds
+mod ClaimLemmas
+mod RiseLemmas
+mod WroteHands
+mod WriteCall
+mod ChangeCall
+mod InPlaceWords
+mod StoreChanges
+mod GoneReads
+mod DictReads
+mod StoreReads
+mod DictSlots
+mod TakeLemmas
+mod StandLemmas
+mod GrowTakes
+mod GrownWords
+mod TakeCall
+mod GrowCall
+mod GrowStore
+mod FitStore
+mod NewIndex
+mod GrowPair
+mod MakeTakes
+mod MadeWords
+mod MakeCall
+mod MakeIndex
+mod MakeStore
+mod IndexFrame
+mod ReindexLemmas
+mod PairIndex
+mod PairPlace
+mod SawLemmas
+mod IndexedLemmas
+mod IndexedPublish

@@ -206,8 +206,10 @@ module _ (p : Paged) (k a : ℕ) (f : Fine p) (l : k < p.table.segments) (r : Re
         keys = subst (KeysSeen t (Segment k)) (sym its_values)
             (record { each = λ j n. pairs_each h (IsKeySeen t (Segment k)) tt key_seen r.values pairs j });
         apart = record {
-          head = λ q i. index_not_head (owned_by never e a) (parted never e (part w a z.body z.index r)) v a q its.lays i;
-          body = λ q i. index_not_body (owned_by never e a) (parted never e (part w a z.body z.index r)) v a q its.lays i;
+          head = λ q i. index_not_head (owned_by never e a) (parted never e (part w a z.body z.index r)) v
+              a q its.lays i;
+          body = λ q i. index_not_body (owned_by never e a) (parted never e (part w a z.body z.index r)) v
+              a q its.lays i;
         };
         keys_apart = λ j. subst (λ (vs : List Value). KeyAvoids v (index_by v a) (index_size v a) (value_at vs (2 * j)))
             (sym its_values)

@@ -134,7 +134,8 @@ module _ (there : ℕ → Bool) (w v : Words) (a : ℕ) (is : there a ≡ true) 
     count_less : length less + 2 ≡ length vs
     count_less =
         let e : length (remove vs (2 * p)) + 1 ≡ length vs = length-remove vs (2 * p) (omega arith) in
-        let f : length less + 1 ≡ length (remove vs (2 * p)) = length-remove (remove vs (2 * p)) (2 * p) (omega arith) in
+        let f : length less + 1 ≡ length (remove vs (2 * p)) = length-remove (remove vs (2 * p)) (2 * p)
+        (omega arith) in
         omega arith
 
     skip_below : (j : ℕ) → j < m - 1 → skip p j < m

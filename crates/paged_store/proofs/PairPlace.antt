@@ -164,7 +164,8 @@ module _ (w : Words) (a : ℕ) (f : Formed w a) (apart : Apart w a) where
         (subst (λ r. P (count_by words a) (body_by words a) r) (sym record_same) here))
 
     stays : (q : ℕ) → in_body w a q ≡ false → in_span (2 * a + 1) 1 q ≡ false → left q ≡ words q
-    stays q x y = dropped.off q (part_off w a (body_by w a + 4 * pair) (2 * (count_by w a - 2) - 4 * pair) q (omega arith)
+    stays q x y = dropped.off q (part_off w a (body_by w a + 4 * pair) (2 * (count_by w a - 2) - 4 * pair)
+        q (omega arith)
         (let m = count_fits w a bytes f in omega (arith, m, within)) x y)
 
     left_head : (q : ℕ) → in_head a q ≡ true → q ≢ 2 * a + 1 → left q ≡ w q

@@ -46,7 +46,8 @@ extents_more xs y = λ i p. here xs p i
 -- ---- extents that lie side by side
 
 pub run_one : (end from n : ℕ) (xs : List Extent) (d : Extent) → from < length xs → n ≡ 2 ^ (get_or xs from d).class →
-    Lies (get_or xs from d).class (get_or xs from d).place end → LieSideBySide end xs from (from + 1) (get_or xs from d).place n
+    Lies (get_or xs from d).class (get_or xs from d).place end → LieSideBySide end xs from (from + 1)
+    (get_or xs from d).place n
 run_one end from n xs d h e lies =
     let x : Extent = get_or xs from d in
     record {
@@ -57,7 +58,8 @@ run_one end from n xs d h e lies =
           ∙ ap (λ m. either_of (in_extents (take from xs)) (in_span x.place m)) (sym e);
     }
 
-pub run_more : (end from to place words n : ℕ) (xs : List Extent) (d : Extent) → LieSideBySide end xs from to place words →
+pub run_more : (end from to place words n : ℕ) (xs : List Extent) (d : Extent) →
+    LieSideBySide end xs from to place words →
     to < length xs → n ≡ 2 ^ (get_or xs to d).class → (get_or xs to d).place ≡ place + words →
     Lies (get_or xs to d).class (get_or xs to d).place end → LieSideBySide end xs from (to + 1) place (words + n)
 run_more end from to place words n xs d run h e next lies =
@@ -139,7 +141,8 @@ push_span_step k i xs d t u v l a b =
     ∙ ap (λ f. pushes k f t) (sym (ap in_spans (take_more xs i d l) ∙ spans_more (take i xs) x))
 
 pub push_run_step : (k from to place words end : ℕ) (xs : List Extent) (t u v : Table) →
-    LieSideBySide end xs from to place words → u ≡ pushes k (in_extents (take from xs)) t → v ≡ after_push k place words u →
+    LieSideBySide end xs from to place words → u ≡ pushes k (in_extents (take from xs)) t →
+    v ≡ after_push k place words u →
     v ≡ pushes k (in_extents (take to xs)) t
 push_run_step k from to place words end xs t u v run a b =
     b ∙ ap (after_push k place words) a ∙ pushes_twice k (in_extents (take from xs)) (in_span place words) t

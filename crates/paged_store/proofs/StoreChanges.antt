@@ -179,9 +179,11 @@ module _ (s : PagedStore) (k a : ℕ) (l : k < (paged_meaning s).segments)
       → Renews (seen_by_store s k) (words_of s k) now a (after c (decode (words_of s k) a))
       → StoreStands u s.present.items s.marks (slice_set s.drafts.items k d)
       (after_change k a (after c) (paged_meaning s))
-  change_stands now t c can h i same right = turn_stands (after_change k a (after c) (paged_meaning s)) (h.same.segments, h.same.pages)
+  change_stands now t c can h i same right = turn_stands (after_change k a (after c) (paged_meaning s))
+      (h.same.segments, h.same.pages)
       (change_leaves (paged_of s) k a s.sound.fine (table_segment s k l) held (desk u d) now t
-      (subst (λ x. Wrote k now t (record { table = table_of s.pages; draft = x }) (desk u d)) read h) c can i (λ n z. same n) right)
+      (subst (λ x. Wrote k now t (record { table = table_of s.pages; draft = x }) (desk u d)) read h) c can i
+      (λ n z. same n) right)
 
   pub refused_stands : (t : ℕ → Bool) → ((q : ℕ) → t q ≡ true → in_record (words_of s k) a q ≡ true) →
       Refused k t (desk s.pages g) (desk u d)
@@ -206,7 +208,8 @@ module _ (s : PagedStore) (k a : ℕ) (l : k < (paged_meaning s).segments)
       (set_in_place w a (stands s k a l c can).formed i v (no_text s k a l c can) (omega (arith, z, e)) fits)
       (set_keeps i v (decode w a))
       (dict_renews (seen_by_store s k) w (set_words w a i v) a (with_value i v (decode w a)) there_seen was_right
-      (off (2 * a) (parts.head (2 * a) (head_first a))) (off (2 * a + 3) (parts.head (2 * a + 3) (head_at a 3 (omega arith))))
+      (off (2 * a) (parts.head (2 * a) (head_first a)))
+      (off (2 * a + 3) (parts.head (2 * a + 3) (head_at a 3 (omega arith))))
       (λ n l. off (index_by w a + n) (parts.index (index_by w a + n) (in_span_at (index_by w a) (index_size w a) n l)))
       (length-set (decode w a).values i v) keys)
     where
@@ -222,7 +225,8 @@ module _ (s : PagedStore) (k a : ℕ) (l : k < (paged_meaning s).segments)
           both_ways (in_body w a q) n (in_span_holds (body_by w a) (body_size w a) q (let x = b.0 in omega (arith, x))
           (let y = b.1 in omega (arith, y, z, e, m)))))
 
-      keys : kind_by (words_of s k) a ≡ Dict → (j : ℕ) → value_at (with_value i v (decode (words_of s k) a)).values (2 * j)
+      keys : kind_by (words_of s k) a ≡ Dict →
+          (j : ℕ) → value_at (with_value i v (decode (words_of s k) a)).values (2 * j)
           ≡ value_at (decode (words_of s k) a).values (2 * j)
       keys d j =
           let o : IsValuePlace Dict i = subst (λ z. IsValuePlace z i) (kind_is (words_of s k) a ∙ d)

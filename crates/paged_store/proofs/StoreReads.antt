@@ -144,7 +144,8 @@ module _ (s : PagedStore) (k d : ℕ) (key : Value) (l : k < (paged_meaning s).s
   key_extent = dict_extent s k d dict_there dict_is
 
   -- its keys are keys, and differ
-  pub key_pairs : ArePairs (heap_seen (table_of s.pages) (Segment k)) (record_seen (table_of s.pages) (Segment k) d).values
+  pub key_pairs : ArePairs (heap_seen (table_of s.pages) (Segment k))
+      (record_seen (table_of s.pages) (Segment k) d).values
   key_pairs = dict_pairs s k d dict_there dict_is
 
   pub key_differs : KeysDiffer (heap_seen (table_of s.pages) (Segment k))

@@ -246,7 +246,8 @@ module _ (p : Paged) (k : ℕ) (new : Desk) (w : Words) (t : ℕ → Bool) (xs :
       ap (λ n. cond (eqb j k) n (of_class c (p.drafts j).taken))
       (ap (of_class c) d.taken ∙ class_both c (p.drafts k).taken xs)
 
-  pub counts_before : (j c : ℕ) → of_class c (taken_then (put k new.draft p.drafts j)) ≡ of_class c (taken_then (p.drafts j))
+  pub counts_before : (j c : ℕ) → of_class c (taken_then (put k new.draft p.drafts j)) ≡ of_class c
+      (taken_then (p.drafts j))
   counts_before j c = ap (λ (g : ℕ → ℕ). g j)
       (put_still (λ j x. of_class c (taken_then x)) k new.draft p.drafts (ap (of_class c) extents_then))
 
@@ -334,7 +335,8 @@ module _ (p : Paged) (k : ℕ) (new : Desk) (w : Words) (t : ℕ → Bool) (xs :
         → KeepsFixed (sees (meaning_in (state_of p)) k) (sees (after_change k a g (meaning_in (state_of p))) k)
         → Renews seen_there (p.table.word k) w a (g (decode (p.table.word k) a))
         → Leaves (turned_to p k new) (after_change k a g (meaning_in (state_of p)))
-    turn_leaves g l h known more keyed fixed right = leaves_of p (turned_to p k new) (writes k w t (extents_at xs) (stock (state_of p)))
+    turn_leaves g l h known more keyed fixed right =
+        leaves_of p (turned_to p k new) (writes k w t (extents_at xs) (stock (state_of p)))
         (after_change k a g (meaning_in (state_of p))) f (fits_turned l) state_turned
         (λ own role s. went g own role s (h own role s)) known (change_counted a g l held more) keyed
         (written_indexed (g (decode (p.table.word k) a)) h
@@ -368,6 +370,7 @@ module _ (p : Paged) (k : ℕ) (new : Desk) (w : Words) (t : ℕ → Bool) (xs :
     stay_leaves l e h known none = leaves_of p (turned_to p k new) (writes k w t (extents_at xs) (stock (state_of p)))
         (meaning_in (state_of p)) f (fits_turned l) state_turned (λ own role s. stayed own role s e (h own role s))
         known (rest_counted none) f.keyed
-        (written_indexed (decode w a) h (λ own role s. subst (λ m. KeepsFixed (sees (meaning_in (state_of p)) k) (sees m k))
+        (written_indexed (decode w a) h
+        (λ own role s. subst (λ m. KeepsFixed (sees (meaning_in (state_of p)) k) (sees m k))
         (sym (stayed own role s e (h own role s)).means) (λ b r x y. x))
         (λ keys same means. subst (λ v. kind_by v a ≡ Dict → IsIndexed v a) e (was_indexed a held)))

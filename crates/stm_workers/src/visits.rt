@@ -442,8 +442,8 @@ fn worth_of(brought: bool, steps: u64) -> Option<bool> {
 /// One visit of the worker of segment `k`, which brings the piece that it has run since the last one, if it has: what
 /// it found, whether the piece was worth its copies, and a loan for the next piece.
 ///
-/// A piece that fits is installed, and what has as many steps as the length then is committed. The visit goes on as
-/// one without pieces does, but by one step where the piece went far. Then, where the worker asks for a loan, brought no
+/// A piece that fits is installed, and what has as many steps as the length then is committed. The visit goes on as one
+/// without pieces does, but by one step where the piece went far. Then, where the worker asks for a loan, brought no
 /// piece that wasn't worth it, and has a transaction in hand that may go on, its thread's state and records that its
 /// steps have looked at are loaned.
 pub fn visit_with<C: Client, S: SegStore, I: Source, O: Sink, E: Sink>(

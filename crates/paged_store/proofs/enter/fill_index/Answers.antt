@@ -36,7 +36,8 @@ enter-requires-clause-pair c =
     let can : CanIndex c.args.k c.args.d c.slots-place.result.0 c.slots-place.result.1 (table_of c.args.pages.now) =
     can_index_by c.args.k c.args.d c.slots-place.result.0 c.slots-place.result.1 (table_of c.args.pages.now)
     c.slots-place.ensures.place c.slots-place.ensures.size c.requires.can in
-    subst (λ z. c.pairs.m < z) (pairs_count _ c.args.d c.len-count.result c.requires.can.slots.kind c.len-count.ensures ∙
+    subst (λ z. c.pairs.m < z) (pairs_count _ c.args.d c.len-count.result c.requires.can.slots.kind
+    c.len-count.ensures ∙
     sym (pairs_put c.args.k c.slots-place.result.0 c.slots-place.result.1 (table_of c.args.pages.now)
     (table_of c.pairs.pages) c.pairs.invariant.puts c.args.d can.slots)) c.pairs-test.true
 

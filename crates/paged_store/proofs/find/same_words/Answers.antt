@@ -5,4 +5,5 @@ pub word_in-requires-clause-words : goal.word_in-requires-clause-words
 word_in-requires-clause-words c = run_word _ c.args.x c.args.n c.words.j _ c.run-first.ensures c.words-test.true
 
 pub word_in-requires-in-words-clause-words : goal.word_in-requires-in-words-clause-words
-word_in-requires-in-words-clause-words c = run_word _ c.args.y c.args.n c.words.j _ c.run-second.ensures c.words-test.true
+word_in-requires-in-words-clause-words c = run_word _ c.args.y c.args.n c.words.j _ c.run-second.ensures
+    c.words-test.true

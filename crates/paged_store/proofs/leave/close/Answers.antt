@@ -34,7 +34,8 @@ slot_of-first-requires-clause-pair c = omega (
 
 pub slot_of-first-requires-clause-there : goal.slot_of-first-requires-clause-there
 slot_of-first-requires-clause-there c = pair_stands c.args.k c.args.d c.args.place c.args.n c.home-start.result
-    c.args.pair c.val.result (table_of c.args.pages.now) c.requires.can.slots c.requires.index c.requires.pair c.val.ensures
+    c.args.pair c.val.result (table_of c.args.pages.now) c.requires.can.slots c.requires.index
+    c.requires.pair c.val.ensures
     c.home-start.ensures.value
 
 pub slots-init : goal.slots-init

@@ -14,7 +14,8 @@ run_of-to-requires-clause-lie c = subst (λ n. ExtentsLie n c.args.extents.now)
 pub runs-preserved : goal.runs-preserved
 runs-preserved c = record {
   within = c.run_of-to.ensures.most;
-  words = restore_run_step c.args.k c.runs.done c.run_of-to.result.0 _ _ _ c.args.extents.now (table_of c.args.pages.now)
+  words = restore_run_step c.args.k c.runs.done c.run_of-to.result.0 _ _ _ c.args.extents.now
+      (table_of c.args.pages.now)
       (table_of c.runs.pages) (table_of c.restore_words.new.self) c.run_of-to.ensures c.runs.invariant.words
       c.restore_words.ensures;
 }

@@ -134,7 +134,8 @@ returns-clause-ok c =
 pub returns-then-is_err-clause-rises : goal.returns-then-is_err-clause-rises
 returns-then-is_err-clause-rises c =
     let wanted : List ℕ = c.args.first ∷ c.args.second ∷ c.args.third ∷ [] in
-    rises_still wanted (table_of c.args.pages.now) (table_of c.open_extents.new.pages) (table_of c.give_back_all.new.pages)
+    rises_still wanted (table_of c.args.pages.now) (table_of c.open_extents.new.pages)
+    (table_of c.give_back_all.new.pages)
     (rises_kept wanted (table_of c.args.pages.now) (table_of c.claim.new.pages) (table_of c.open_extents.new.pages)
     c.claim.ensures.rises (ap (λ (t : Table). t.shelf) c.open_extents.ensures.same.same))
     c.give_back_all.ensures.total
