@@ -50,18 +50,18 @@ pub(crate) trait Crew<T: Job, L, P> {
 #[derive(Drop)]
 pub(crate) struct Visit<E> {
     pub found: Finding,
-    /// Whether the errand that was brought was worth its while; None where none was brought.
+    /// Whether the errand that was brought was worth its while; None where none was brought, or it doesn't tell.
     pub worth: Option<bool>,
     pub errand: Option<E>,
 }
 
-/// When a worker asks for errands: after one that wasn't worth its while it makes a spell of visits without, longer
-/// each time, and after one that was it asks at each visit again.
+/// When a worker asks for errands: after a second one on end that wasn't worth its while it makes a spell of visits
+/// without, longer each time, and after one that was it asks at each visit again.
 #[derive(Clone, Copy, Debug)]
 struct Asking {
     /// How many visits of the spell are left.
     left: u32,
-    /// How many the last spell had.
+    /// How many the next spell will have.
     spell: u32,
 }
 
@@ -76,18 +76,18 @@ impl Asking {
         self.left == 0
     }
 
-    /// After a visit to which an errand was brought that was worth so much, or none.
+    /// After a visit to which an errand was brought that was worth so much, if it tells.
     fn after(self, worth: Option<bool>) -> Asking {
         match worth {
             Some(true) => Asking::new(),
-            Some(false) => {
-                let spell = self
+            Some(false) => Asking {
+                left: self.spell,
+                spell: self
                     .spell
                     .saturating_mul(2)
                     .saturating_add(1)
-                    .min(LONGEST_SPELL);
-                Asking { left: spell, spell }
-            }
+                    .min(LONGEST_SPELL),
+            },
             None => Asking {
                 left: self.left.saturating_sub(1),
                 spell: self.spell,

@@ -14,7 +14,7 @@ use lock_run::Client;
 use seg_store::SegStore;
 use stm_core::{Advance, AdvanceError, Core, RunState, Slot, SoloError, events_law};
 use stm_io::{Sink, Source};
-use stm_pieces::{Loan, Piece};
+use stm_pieces::{Loan, Piece, PieceEnd};
 
 /// What a visit found.
 #[derive(Clone, Copy, Debug)]
@@ -430,17 +430,28 @@ pub fn visit<C: Client, S: SegStore, I: Source, O: Sink, E: Sink>(
     go_round(core, k, None).0
 }
 
-/// Whether a piece that was brought and added so many steps was worth its copies; None where none was brought.
-fn worth_of(brought: bool, steps: u64) -> Option<bool> {
-    if brought {
-        Some(WORTHY_STEPS <= steps)
+/// Whether what ended a piece, if one was brought, tells of the records that it wanted: the length of a transaction and
+/// the end of a thread don't.
+fn tells<T>(piece: &Option<Piece<T>>) -> bool {
+    match piece {
+        Some(piece) => !matches!(piece.end, PieceEnd::Most | PieceEnd::Ended),
+        None => false,
+    }
+}
+
+/// Whether pieces are worth their copies, by one that added so many steps; None where it doesn't tell.
+fn worth_of(tells: bool, steps: u64) -> Option<bool> {
+    if WORTHY_STEPS <= steps {
+        Some(true)
+    } else if tells {
+        Some(false)
     } else {
         None
     }
 }
 
 /// One visit of the worker of segment `k`, which brings the piece that it has run since the last one, if it has: what
-/// it found, whether the piece was worth its copies, and a loan for the next piece.
+/// it found, whether the piece was worth its copies, if it tells, and a loan for the next piece.
 ///
 /// A piece that fits is installed, and what has as many steps as the length then is committed. The visit goes on as one
 /// without pieces does, but by one step where the piece went far. Then, where the worker asks for a loan, brought no
@@ -461,9 +472,9 @@ pub fn visit_with<C: Client, S: SegStore, I: Source, O: Sink, E: Sink>(
     ensures over { result.0 ≡ Finding.Ended → HasEnded I.state O.state E.state C.prog S.meaning core.new }
     ensures loan { IfSome result.2 (IsRunnable C.prog C.sound (core_client core.old)) }
 {
-    let brought = piece.is_some();
+    let tells = tells(&piece);
     let (found, steps) = go_round(core, k, piece);
-    let worth = worth_of(brought, steps);
+    let worth = worth_of(tells, steps);
     if found.is_last() || !asks || worth == Some(false) {
         return (found, worth, None);
     }
