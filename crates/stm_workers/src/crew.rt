@@ -55,8 +55,8 @@ pub(crate) struct Visit<E> {
     pub errand: Option<E>,
 }
 
-/// When a worker asks for errands: after a second one on end that wasn't worth its while it makes a spell of visits
-/// without, longer each time, and after one that was it asks at each visit again.
+/// When a worker asks for errands: after the second in a row that wasn't worth its while it makes a spell of visits
+/// without, and a longer one after each further; after one that was it asks at each visit again.
 #[derive(Clone, Copy, Debug)]
 struct Asking {
     /// How many visits of the spell are left.
