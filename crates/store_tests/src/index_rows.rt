@@ -1,5 +1,5 @@
-//! Rows of what finds keys and of what notes looks: a long dictionary, keys that are equal, and more transactions than a
-//! byte has numbers. Each row is tried on a store of maps and on a store of pages.
+//! Rows of what finds keys and of what notes looks: a long dictionary, keys that are equal, and more transactions than
+//! a byte has numbers. Each row is tried on a store of maps and on a store of pages.
 use crate::acts::{make, make_cell, maps, paged, put_numbers};
 use crate::bench::Bench;
 use py_data::{Addr, Kind, Value};
