@@ -187,24 +187,40 @@ fn next_body(rt: HostRuntime) -> Tested {
     grow_past_limit(&rt, rt.alloc(), paged(&rt, rt.alloc(), 2, 4)?)
 }
 
+/// Makes a List of two numbers.
+fn make_pair<S: SegStore>(
+    rt: &impl Abort,
+    alloc: Global,
+    store: &mut Bench<S>,
+    first: i64,
+    second: i64,
+) -> Result<Addr, Fail> {
+    make(
+        rt,
+        alloc,
+        store,
+        0,
+        Kind::List,
+        &[Value::Int(first), Value::Int(second)],
+    )
+}
+
+/// A segment sees these two numbers in a List.
+fn has_pair<S: SegStore>(
+    rt: &impl Abort,
+    store: &Bench<S>,
+    k: u8,
+    a: Addr,
+    first: i64,
+    second: i64,
+) -> bool {
+    number(rt, store, k, a, 0) == first && number(rt, store, k, a, 1) == second
+}
+
 /// What one segment wrote is not seen by the other before it is published, and by both after.
 fn write_own_pages<S: SegStore>(rt: &impl Abort, alloc: Global, mut store: Bench<S>) -> Tested {
-    let a = make(
-        rt,
-        alloc,
-        &mut store,
-        0,
-        Kind::List,
-        &[Value::Int(1), Value::Int(2)],
-    )?;
-    let b = make(
-        rt,
-        alloc,
-        &mut store,
-        0,
-        Kind::List,
-        &[Value::Int(3), Value::Int(4)],
-    )?;
+    let a = make_pair(rt, alloc, &mut store, 1, 2)?;
+    let b = make_pair(rt, alloc, &mut store, 3, 4)?;
     store.publish(rt, alloc, 0)?;
     store.lock(rt, 0, a);
     store.lock(rt, 1, b);
@@ -223,17 +239,6 @@ fn write_own_pages<S: SegStore>(rt: &impl Abort, alloc: Global, mut store: Bench
 #[test]
 fn own_pages(rt: HostRuntime) -> Tested {
     write_own_pages(&rt, rt.alloc(), paged(&rt, rt.alloc(), 2, 2)?)
-}
-
-fn has_pair<S: SegStore>(
-    rt: &impl Abort,
-    store: &Bench<S>,
-    k: u8,
-    a: Addr,
-    first: i64,
-    second: i64,
-) -> bool {
-    number(rt, store, k, a, 0) == first && number(rt, store, k, a, 1) == second
 }
 
 /// Two Lists of 600 numbers, whose bodies span pages.
@@ -289,23 +294,9 @@ fn keep_long_strings<S: SegStore>(rt: &impl Abort, alloc: Global, mut store: Ben
     text[4_095] = 1;
     text[4_096] = 2;
     text[4_999] = 254;
-    let a = make(
-        rt,
-        alloc,
-        &mut store,
-        0,
-        Kind::List,
-        &[Value::Int(1), Value::Int(2)],
-    )?;
+    let a = make_pair(rt, alloc, &mut store, 1, 2)?;
     let s = make_text(rt, alloc, &mut store, 0, &text)?;
-    let b = make(
-        rt,
-        alloc,
-        &mut store,
-        0,
-        Kind::List,
-        &[Value::Int(3), Value::Int(4)],
-    )?;
+    let b = make_pair(rt, alloc, &mut store, 3, 4)?;
     store.publish(rt, alloc, 0)?;
     assert_eq!(rt; store.reserved(), 2 + 4 + 4 + 4 + 1_024 + 4 + 4);
     store.lock(rt, 0, a);
