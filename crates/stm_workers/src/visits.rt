@@ -40,18 +40,24 @@ impl Finding {
 /// The most steps of one visit.
 const VISIT_STEPS: u64 = 100;
 
+/// The same of a worker that asks for no loan, and so comes back to the heap for all its steps.
+const SPELL_STEPS: u64 = 300;
+
 /// The same on one segment, where no other worker waits for the heap.
 const ALONE_STEPS: u64 = 1_000;
 
 /// A piece of fewer steps isn't worth the copies that it takes.
 const WORTHY_STEPS: u64 = 16;
 
-/// How many steps a visit does where the piece that was brought to it did so many, and whether there is one segment
-/// alone. After a piece that went far it is one step, for which the piece ended; otherwise there are as many as without
-/// pieces, since the records that a piece wants are met so.
-fn steps_after(alone: bool, piece: u64) -> u64 {
+/// How many steps a visit does where there is one segment alone, or it asks for a loan, and where the piece that was
+/// brought to it did so many. After a piece that went far it is one step, for which the piece ended; otherwise there are
+/// as many as without pieces, since the records that a piece wants are met so.
+fn steps_after(alone: bool, asks: bool, piece: u64) -> u64 {
     if alone {
         return ALONE_STEPS;
+    }
+    if !asks {
+        return SPELL_STEPS;
     }
     if piece < WORTHY_STEPS { VISIT_STEPS } else { 1 }
 }
@@ -388,12 +394,13 @@ fn lend<C: Client, S: SegStore, I: Source, O: Sink, E: Sink>(
     }
 }
 
-/// A visit that brings a piece, if there is one: what it found, and how many steps the piece added. It asks for no
-/// loan.
+/// A visit that brings a piece, if there is one, and whether it asks for a loan, which it doesn't take yet: what it
+/// found, and how many steps the piece added.
 fn go_round<C: Client, S: SegStore, I: Source, O: Sink, E: Sink>(
     core: &mut Core<'_, C, S, I, O, E>,
     k: u8,
     piece: Option<Piece<C::State>>,
+    asks: bool,
 ) -> (Finding, u64)
     requires good { IsGoodCore I.state O.state E.state C.prog C.sound S.reserved S.meaning core.old }
     requires segment { k < (core_limits S.meaning core.old).segments }
@@ -408,7 +415,7 @@ fn go_round<C: Client, S: SegStore, I: Source, O: Sink, E: Sink>(
     }
     let alone = core.store().segments() == 1;
     let steps = take_in(core, k, piece);
-    (found(work(core, k, steps_after(alone, steps))), steps)
+    (found(work(core, k, steps_after(alone, asks, steps))), steps)
 }
 
 /// One visit of the worker of segment `k` without pieces, and what it found.
@@ -427,7 +434,7 @@ pub fn visit<C: Client, S: SegStore, I: Source, O: Sink, E: Sink>(
     ensures grows { Grows I.state O.state E.state C.prog S.meaning S.peaks core.old core.new }
     ensures over { result ≡ Finding.Ended → HasEnded I.state O.state E.state C.prog S.meaning core.new }
 {
-    go_round(core, k, None).0
+    go_round(core, k, None, true).0
 }
 
 /// Whether what ended a piece, if one was brought, tells of the records that it wanted: the length of a transaction and
@@ -473,7 +480,7 @@ pub fn visit_with<C: Client, S: SegStore, I: Source, O: Sink, E: Sink>(
     ensures loan { IfSome result.2 (IsRunnable C.prog C.sound (core_client core.old)) }
 {
     let tells = tells(&piece);
-    let (found, steps) = go_round(core, k, piece);
+    let (found, steps) = go_round(core, k, piece, asks);
     let worth = worth_of(tells, steps);
     if found.is_last() || !asks || worth == Some(false) {
         return (found, worth, None);
