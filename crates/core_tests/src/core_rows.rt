@@ -1,11 +1,8 @@
 //! Scripts on a core over a store of maps: lists of events, each with its replies, and what they leave in the image.
 ghost use Rattle.std.specs.Prelude.{◌≤◌, IfOk};
-ghost use Rattle.lock_run.specs.LockState.{lock_state, IsSound};
-ghost use Rattle.lock_run.specs.Script.{ScriptSound};
-ghost use Rattle.stm_io.specs.Memory.{mem_sink_state, mem_source_state};
 ghost use Rattle.core_tests.specs.ScriptCore.{IsGoodScriptCore};
 
-use lock_run::{Act, Acts, History, LockRun, Script, Turn};
+use lock_run::{Act, Acts, Script};
 use py_data::{Addr, Conflict, Side, Value};
 use seg_store::{PlainStore, SegStore};
 use std::alloc::Global;
@@ -17,8 +14,6 @@ use stm_io::{MemSink, MemSource};
 pub(crate) type Tested = Result<(), test::Fail>;
 
 pub(crate) type MemCore<'p> = Core<'p, Script, PlainStore, MemSource, MemSink, MemSink>;
-
-type MemRun<'p> = LockRun<'p, Script, MemSource, MemSink, MemSink>;
 
 /// Threads with these lists of acts, over two Cells.
 pub(crate) fn script_of(rt: &impl Abort, lists: Vec<Acts>) -> Script {
@@ -157,12 +152,46 @@ fn seen(rt: &impl Abort, core: &MemCore<'_>, k: u8, place: usize) -> i64 {
     }
 }
 
+/// The numbers in both Cells of the image.
+fn committed_both(rt: &impl Abort, core: &MemCore<'_>) -> (i64, i64) {
+    (committed(rt, core, 0), committed(rt, core, 1))
+}
+
+/// The numbers in both Cells as a segment sees them.
+fn seen_both(rt: &impl Abort, core: &MemCore<'_>, k: u8) -> (i64, i64) {
+    (seen(rt, core, k, 0), seen(rt, core, k, 1))
+}
+
 /// What a segment has in hand.
 pub(crate) fn slot(rt: &impl Abort, core: &MemCore<'_>, k: u8) -> Slot
     requires { IsGoodScriptCore core.now }
 {
     assert!(rt; k < core.store().segments());
     core.slot(k)
+}
+
+/// How the run of a core stands.
+pub(crate) fn outcome(core: &MemCore<'_>) -> RunState
+    requires { IsGoodScriptCore core.now }
+{
+    core.outcome()
+}
+
+/// The thread that is to begin next on a core.
+fn next_ready(core: &MemCore<'_>) -> Option<u32>
+    requires { IsGoodScriptCore core.now }
+{
+    core.next_ready()
+}
+
+/// How many turns the history of a core has.
+fn turns(core: &MemCore<'_>) -> usize {
+    core.history().len()
+}
+
+/// How many conflicts the transactions of a core lost.
+fn conflicts(core: &MemCore<'_>) -> usize {
+    core.conflicts().len()
 }
 
 /// The side of a transaction that isn't solo.
@@ -175,18 +204,12 @@ pub(crate) fn side(segment: u8, thread: u32, begun: u64) -> Side {
     }
 }
 
-/// Two threads look at a Cell and set it: the second one asks for what the first has changed, and loses.
-#[test]
-fn updates_are_not_lost(rt: HostRuntime) -> Tested {
-    let client = script(
-        &rt,
-        rt.alloc(),
-        &[Act::Look(0), Act::Set(0, 1)],
-        &[Act::Look(0), Act::Set(0, 2)],
-    )?;
-    let mut core = begun(&rt, rt.alloc(), &client, 1_000)?;
+/// Thread 1 commits, and thread 2, which asks for what it has changed, loses.
+fn second_loses(rt: &impl Abort, core: &mut MemCore<'_>) -> Tested
+    requires { IsGoodScriptCore core.old }
+{
     let lost = Conflict {
-        at: cell(&rt, &core, 0),
+        at: cell(rt, core, 0),
         writer: side(0, 1, 1),
         other: side(1, 2, 2),
         asks: true,
@@ -206,24 +229,31 @@ fn updates_are_not_lost(rt: HostRuntime) -> Tested {
         Reply::Lost(lost),
         Reply::Committed(1),
     ];
-    play(&rt, &mut core, &list, &wanted)?;
-    assert_eq!(&rt; committed(&rt, &core, 0), 1);
-    assert_eq!(&rt; core.conflicts().len(), 1);
+    play(rt, core, &list, &wanted)?;
+    assert_eq!(rt; committed(rt, core, 0), 1);
+    assert_eq!(rt; conflicts(core), 1);
     Ok(())
 }
 
-/// Each of two threads looks at what the other sets: the first commit dooms the other.
+/// Two threads look at a Cell and set it: the second one asks for what the first has changed, and loses.
 #[test]
-fn writes_do_not_skew(rt: HostRuntime) -> Tested {
+fn updates_are_not_lost(rt: HostRuntime) -> Tested {
     let client = script(
         &rt,
         rt.alloc(),
-        &[Act::Look(1), Act::Set(0, 1)],
-        &[Act::Look(0), Act::Set(1, 2)],
+        &[Act::Look(0), Act::Set(0, 1)],
+        &[Act::Look(0), Act::Set(0, 2)],
     )?;
     let mut core = begun(&rt, rt.alloc(), &client, 1_000)?;
+    second_loses(&rt, &mut core)
+}
+
+/// Threads 1 and 2 look and set, and the commit of thread 1 dooms thread 2.
+fn first_commit_dooms(rt: &impl Abort, core: &mut MemCore<'_>) -> Tested
+    requires { IsGoodScriptCore core.old }
+{
     let lost = Conflict {
-        at: cell(&rt, &core, 0),
+        at: cell(rt, core, 0),
         writer: side(0, 1, 1),
         other: side(1, 2, 2),
         asks: false,
@@ -245,17 +275,29 @@ fn writes_do_not_skew(rt: HostRuntime) -> Tested {
         Reply::Committed(1),
         Reply::Lost(lost),
     ];
-    play(&rt, &mut core, &list, &wanted)?;
-    assert_eq!(&rt; committed(&rt, &core, 0), 1);
-    assert_eq!(&rt; committed(&rt, &core, 1), 0);
+    play(rt, core, &list, &wanted)?;
+    assert_eq!(rt; committed(rt, core, 0), 1);
+    assert_eq!(rt; committed(rt, core, 1), 0);
     Ok(())
 }
 
-/// Threads that set different Cells both commit.
+/// Each of two threads looks at what the other sets: the first commit dooms the other.
 #[test]
-fn disjoint_writes_commit(rt: HostRuntime) -> Tested {
-    let client = script(&rt, rt.alloc(), &[Act::Set(0, 1)], &[Act::Set(1, 2)])?;
+fn writes_do_not_skew(rt: HostRuntime) -> Tested {
+    let client = script(
+        &rt,
+        rt.alloc(),
+        &[Act::Look(1), Act::Set(0, 1)],
+        &[Act::Look(0), Act::Set(1, 2)],
+    )?;
     let mut core = begun(&rt, rt.alloc(), &client, 1_000)?;
+    first_commit_dooms(&rt, &mut core)
+}
+
+/// Threads 1 and 2 set a Cell each and commit.
+fn both_commit(rt: &impl Abort, core: &mut MemCore<'_>) -> Tested
+    requires { IsGoodScriptCore core.old }
+{
     let list = [
         Event::Begin(0, 1),
         Event::Begin(1, 2),
@@ -272,22 +314,26 @@ fn disjoint_writes_commit(rt: HostRuntime) -> Tested {
         Reply::Committed(1),
         Reply::Committed(2),
     ];
-    play(&rt, &mut core, &list, &wanted)?;
+    play(rt, core, &list, &wanted)?;
     for k in 0..2 {
-        assert_eq!(&rt; (seen(&rt, &core, k, 0), seen(&rt, &core, k, 1)), (1, 2));
+        assert_eq!(rt; seen_both(rt, core, k), (1, 2));
     }
-    assert_eq!(&rt;
-        (committed(&rt, &core, 0), committed(&rt, &core, 1)),
-        (1, 2)
-    );
+    assert_eq!(rt; committed_both(rt, core), (1, 2));
     Ok(())
 }
 
-/// What is refused, and what is skipped.
+/// Threads that set different Cells both commit.
 #[test]
-fn calls_are_refused(rt: HostRuntime) -> Tested {
-    let client = script(&rt, rt.alloc(), &[Act::Put(65)], &[Act::Look(0)])?;
+fn disjoint_writes_commit(rt: HostRuntime) -> Tested {
+    let client = script(&rt, rt.alloc(), &[Act::Set(0, 1)], &[Act::Set(1, 2)])?;
     let mut core = begun(&rt, rt.alloc(), &client, 1_000)?;
+    both_commit(&rt, &mut core)
+}
+
+/// Calls that are refused, skipped or made, and what they leave.
+fn refusals(rt: &impl Abort, core: &mut MemCore<'_>) -> Tested
+    requires { IsGoodScriptCore core.old }
+{
     let list = [
         Event::Begin(0, 1),
         Event::Begin(0, 1),
@@ -314,12 +360,28 @@ fn calls_are_refused(rt: HostRuntime) -> Tested {
         Reply::Advanced(Advance::NeedSolo(0)),
         Reply::Nothing,
     ];
-    play(&rt, &mut core, &list, &wanted)?;
-    assert_eq!(&rt;
-        (committed(&rt, &core, 0), committed(&rt, &core, 1)),
-        (0, 0)
-    );
-    assert_eq!(&rt; core.history().len(), 1);
+    play(rt, core, &list, &wanted)?;
+    assert_eq!(rt; committed_both(rt, core), (0, 0));
+    assert_eq!(rt; turns(core), 1);
+    Ok(())
+}
+
+/// What is refused, and what is skipped.
+#[test]
+fn calls_are_refused(rt: HostRuntime) -> Tested {
+    let client = script(&rt, rt.alloc(), &[Act::Put(65)], &[Act::Look(0)])?;
+    let mut core = begun(&rt, rt.alloc(), &client, 1_000)?;
+    refusals(&rt, &mut core)
+}
+
+/// The budget is spent, and thread 1 begins no transaction.
+fn none_begins(rt: &impl Abort, core: &mut MemCore<'_>) -> Tested
+    requires { IsGoodScriptCore core.old }
+{
+    assert!(rt; outcome(core) == RunState::Spent);
+    let wanted = [Reply::Refused(BeginError::AtBudget)];
+    play(rt, core, &[Event::Begin(0, 1)], &wanted)?;
+    assert_eq!(rt; committed_both(rt, core), (0, 0));
     Ok(())
 }
 
@@ -328,35 +390,28 @@ fn calls_are_refused(rt: HostRuntime) -> Tested {
 fn budget_is_kept(rt: HostRuntime) -> Tested {
     let client = script(&rt, rt.alloc(), &[Act::Look(0)], &[Act::Look(1)])?;
     let mut core = begun(&rt, rt.alloc(), &client, 1)?;
-    assert!(&rt; core.outcome() == RunState::Spent);
-    let wanted = [Reply::Refused(BeginError::AtBudget)];
-    play(&rt, &mut core, &[Event::Begin(0, 1)], &wanted)?;
-    assert_eq!(&rt;
-        (committed(&rt, &core, 0), committed(&rt, &core, 1)),
-        (0, 0)
-    );
-    Ok(())
+    none_begins(&rt, &mut core)
 }
 
-/// How a core stands while a thread runs, and when all have ended.
-#[test]
-fn stands_and_ends(rt: HostRuntime) -> Tested {
-    let client = script(&rt, rt.alloc(), &[Act::Set(0, 3)], &[Act::Push(4)])?;
-    let mut core = begun(&rt, rt.alloc(), &client, 1_000)?;
-    assert_eq!(&rt; core.length(), 4);
-    assert!(&rt; core.next_ready() == Some(1));
+/// Both threads end one after the other; how the core stands before, between and after.
+fn both_end(rt: &impl Abort, core: &mut MemCore<'_>) -> Tested
+    requires { IsGoodScriptCore core.old }
+    ensures { IsGoodScriptCore core.new }
+{
+    assert_eq!(rt; core.length(), 4);
+    assert!(rt; next_ready(core) == Some(1));
     let list = [Event::Begin(2, 1), Event::Advance(2, 1)];
     let wanted = [Reply::Begun, Reply::Advanced(Advance::Ended(1))];
-    play(&rt, &mut core, &list, &wanted)?;
+    play(rt, core, &list, &wanted)?;
     let running = Slot::Running {
         thread: 1,
         steps: 1,
         solo: false,
     };
-    assert!(&rt; slot(&rt, &core, 2) == running);
-    assert!(&rt; slot(&rt, &core, 0) == Slot::Idle);
-    assert!(&rt; core.next_ready() == Some(2));
-    assert!(&rt; core.outcome() == RunState::Running);
+    assert!(rt; slot(rt, core, 2) == running);
+    assert!(rt; slot(rt, core, 0) == Slot::Idle);
+    assert!(rt; next_ready(core) == Some(2));
+    assert!(rt; outcome(core) == RunState::Running);
     let list = [
         Event::Commit(2),
         Event::Begin(0, 2),
@@ -369,13 +424,29 @@ fn stands_and_ends(rt: HostRuntime) -> Tested {
         Reply::Advanced(Advance::Ended(1)),
         Reply::Committed(2),
     ];
-    play(&rt, &mut core, &list, &wanted)?;
-    assert!(&rt; core.next_ready().is_none());
+    play(rt, core, &list, &wanted)?;
+    assert!(rt; next_ready(core).is_none());
+    Ok(())
+}
+
+/// Finishes a core whose threads have all ended in three turns.
+fn ends_done(rt: &impl Abort, core: MemCore<'_>)
+    requires { IsGoodScriptCore core }
+{
     let finished = core.finish();
-    assert!(&rt; finished.state == RunState::Done);
-    assert!(&rt; !finished.failed);
-    assert_eq!(&rt; finished.history.len(), 3);
-    assert_eq!(&rt; finished.conflicts.len(), 0);
+    assert!(rt; finished.state == RunState::Done);
+    assert!(rt; !finished.failed);
+    assert_eq!(rt; finished.history.len(), 3);
+    assert_eq!(rt; finished.conflicts.len(), 0);
+}
+
+/// How a core stands while a thread runs, and when all have ended.
+#[test]
+fn stands_and_ends(rt: HostRuntime) -> Tested {
+    let client = script(&rt, rt.alloc(), &[Act::Set(0, 3)], &[Act::Push(4)])?;
+    let mut core = begun(&rt, rt.alloc(), &client, 1_000)?;
+    both_end(&rt, &mut core)?;
+    ends_done(&rt, core);
     Ok(())
 }
 
@@ -406,13 +477,11 @@ fn looks(alloc: Global, count: usize) -> Result<Vec<Act>, test::Fail> {
     Ok(acts)
 }
 
-/// A thread that looked at a Cell 255 transactions ago isn't in the way of another that sets it.
-#[test]
-fn looks_end_with_their_transaction(rt: HostRuntime) -> Tested {
-    let acts = looks(rt.alloc(), 299)?;
-    let client = script(&rt, rt.alloc(), acts.as_slice(), &[Act::Set(0, 5)])?;
-    let mut core = begun(&rt, rt.alloc(), &client, 1_000)?;
-    look_often(&rt, &mut core, 255)?;
+/// After 255 looks of thread 1 and one more that runs, thread 2 sets the Cell, and both commit.
+fn last_of_many(rt: &impl Abort, core: &mut MemCore<'_>) -> Tested
+    requires { IsGoodScriptCore core.old }
+{
+    look_often(rt, core, 255)?;
     let list = [
         Event::Begin(0, 1),
         Event::Advance(0, 1),
@@ -427,171 +496,17 @@ fn looks_end_with_their_transaction(rt: HostRuntime) -> Tested {
         Reply::Advanced(Advance::Ended(1)),
         Reply::Committed(256),
     ];
-    play(&rt, &mut core, &list, &wanted)?;
-    play(
-        &rt,
-        &mut core,
-        &[Event::Commit(0)],
-        &[Reply::Committed(257)],
-    )?;
-    assert_eq!(&rt; committed(&rt, &core, 0), 5);
+    play(rt, core, &list, &wanted)?;
+    play(rt, core, &[Event::Commit(0)], &[Reply::Committed(257)])?;
+    assert_eq!(rt; committed(rt, core, 0), 5);
     Ok(())
 }
 
-/// The next number of a row of numbers, from 0 to 65,535, that look like any.
-fn draw(seed: &mut u32) -> u32 {
-    *seed = seed.wrapping_mul(1_664_525).wrapping_add(1_013_904_223);
-    *seed >> 16
-}
-
-fn draw_event(seed: &mut u32) -> Event {
-    let k = (draw(seed) % 3) as u8;
-    match draw(seed) % 6 {
-        0 => Event::Begin(k, draw(seed) % 4),
-        1 => Event::Advance(k, 1),
-        2 => Event::Advance(k, 2),
-        3 => Event::Solo(k),
-        4 => Event::Piece(k, 2),
-        _ => Event::Commit(k),
-    }
-}
-
-/// So many events of three segments and three threads.
-fn draw_events(alloc: Global, seed: u32, count: usize) -> Result<Vec<Event>, test::Fail> {
-    let mut seed = seed;
-    let mut list = Vec::new(alloc);
-    for _event in 0..count {
-        list.push(draw_event(&mut seed))?;
-    }
-    Ok(list)
-}
-
-/// Three threads that look at, set and push what the others do, and print.
-fn three(rt: &impl Abort, alloc: Global) -> Result<Script, test::Fail> {
-    let mut lists = Vec::new(alloc);
-    let first = [
-        Act::Look(0),
-        Act::Set(1, 1),
-        Act::Look(0),
-        Act::Set(1, 5),
-        Act::Put(65),
-        Act::Push(7),
-    ];
-    let second = [
-        Act::Set(0, 2),
-        Act::Set(0, 6),
-        Act::Look(1),
-        Act::Put(66),
-        Act::Look(1),
-        Act::Push(8),
-    ];
-    let third = [
-        Act::Look(1),
-        Act::Look(1),
-        Act::Put(67),
-        Act::Set(0, 3),
-        Act::Set(1, 4),
-        Act::Look(0),
-    ];
-    lists.push(Acts::from_slice(alloc, &first)?)?;
-    lists.push(Acts::from_slice(alloc, &second)?)?;
-    lists.push(Acts::from_slice(alloc, &third)?)?;
-    Ok(script_of(rt, lists))
-}
-
-/// A machine at its first state.
-#[tactic(auto, using(lock_run::specs::inner::ScriptLaws::script_sound_first))]
-fn machine<'p>(alloc: Global, client: &'p Script) -> Result<MemRun<'p>, test::Fail>
-    ensures { IfOk result (λ run. IsSound ScriptSound (lock_state mem_source_state mem_sink_state mem_sink_state run)) }
-{
-    match LockRun::new(alloc, client, source(alloc), sink(alloc), sink(alloc)) {
-        Ok(run) => Ok(run),
-        Err(_) => Err("no memory".into()),
-    }
-}
-
-/// The machine does a turn, with the names that it gave.
-fn again(rt: &impl Abort, run: &mut MemRun<'_>, turn: &Turn)
-    requires { IsSound ScriptSound (lock_state mem_source_state mem_sink_state mem_sink_state run.old) }
-    ensures { IsSound ScriptSound (lock_state mem_source_state mem_sink_state mem_sink_state run.new) }
-{
-    assert!(rt; turn.steps >= 1);
-    assert!(rt; run.turn(turn.thread, turn.steps, &turn.names).is_ok());
-}
-
-/// The machine does the turns of a history, one after another.
-fn all_again(rt: &impl Abort, run: &mut MemRun<'_>, history: &History)
-    requires { IsSound ScriptSound (lock_state mem_source_state mem_sink_state mem_sink_state run.old) }
-    ensures { IsSound ScriptSound (lock_state mem_source_state mem_sink_state mem_sink_state run.new) }
-{
-    'turns: for i in 0..history.len() {
-        match history.get(i) {
-            Some(turn) => again(rt, run, turn),
-            None => panic!(rt; "no turn"),
-        }
-    }
-}
-
-/// What a list of events left.
-#[derive(Drop)]
-struct Left {
-    turns: usize,
-    conflicts: usize,
-    /// How many bytes were written.
-    bytes: usize,
-    /// How many pieces were installed that had a step.
-    pieces: usize,
-}
-
-/// How many pieces of some steps were installed.
-fn pieces_in(replies: &[Reply]) -> usize {
-    let mut pieces = 0usize;
-    for reply in replies {
-        if let Reply::Installed(n) = reply
-            && *n > 0
-        {
-            pieces = pieces.saturating_add(1);
-        }
-    }
-    pieces
-}
-
-/// Makes the events of a list on a core, and does its history's turns again on a machine, which writes the same.
-fn on_both(rt: &impl Abort, alloc: Global, client: &Script, seed: u32) -> Result<Left, test::Fail> {
-    let mut core = begun(rt, alloc, client, 1_000)?;
-    let list = draw_events(alloc, seed, 80)?;
-    let replies = core.run_events(list.as_slice())?;
-    let finished = core.finish();
-    let mut run = machine(alloc, client)?;
-    all_again(rt, &mut run, &finished.history);
-    let (_, out, _) = run.finish();
-    assert_eq!(rt; finished.out.written(), out.written());
-    Ok(Left {
-        turns: finished.history.len(),
-        conflicts: finished.conflicts.len(),
-        bytes: out.written().len(),
-        pieces: pieces_in(replies.as_slice()),
-    })
-}
-
-/// The histories of 500 lists of events are runs of the one-lock machine, with the same output.
+/// A thread that looked at a Cell 255 transactions ago isn't in the way of another that sets it.
 #[test]
-fn histories_run_again(rt: HostRuntime) -> Tested {
-    let client = three(&rt, rt.alloc())?;
-    let mut turns = 0usize;
-    let mut conflicts = 0usize;
-    let mut bytes = 0usize;
-    let mut pieces = 0usize;
-    for seed in 0..500 {
-        let left = on_both(&rt, rt.alloc(), &client, seed)?;
-        turns = turns.saturating_add(left.turns);
-        conflicts = conflicts.saturating_add(left.conflicts);
-        bytes = bytes.saturating_add(left.bytes);
-        pieces = pieces.saturating_add(left.pieces);
-    }
-    assert!(&rt; turns > 1_500, "{turns}");
-    assert!(&rt; conflicts > 150, "{conflicts}");
-    assert!(&rt; bytes > 300, "{bytes}");
-    assert!(&rt; pieces > 200, "{pieces}");
-    Ok(())
+fn looks_end_with_their_transaction(rt: HostRuntime) -> Tested {
+    let acts = looks(rt.alloc(), 299)?;
+    let client = script(&rt, rt.alloc(), acts.as_slice(), &[Act::Set(0, 5)])?;
+    let mut core = begun(&rt, rt.alloc(), &client, 1_000)?;
+    last_of_many(&rt, &mut core)
 }

@@ -5,6 +5,8 @@
 #[cfg(test)]
 mod core_rows;
 #[cfg(test)]
+mod history_rows;
+#[cfg(test)]
 mod machine_rows;
 #[cfg(test)]
 mod piece_rows;

@@ -13,7 +13,7 @@ use stm_io::{MemSink, MemSource};
 
 type Tested = Result<(), test::Fail>;
 
-type MemRun<'p> = LockRun<'p, Script, MemSource, MemSink, MemSink>;
+pub(crate) type MemRun<'p> = LockRun<'p, Script, MemSource, MemSink, MemSink>;
 
 /// Two Cells, and two threads.
 fn script(rt: &impl Abort, alloc: Global) -> Result<Script, test::Fail> {
@@ -74,6 +74,12 @@ fn turn(
     }
 }
 
+/// The output of a machine that is finished.
+pub(crate) fn output(run: MemRun<'_>) -> MemSink {
+    let (_, out, _) = run.finish();
+    out
+}
+
 /// Whether a thread lives, and whether it can go on.
 fn stands(rt: &impl Abort, run: &MemRun<'_>, t: u32) -> (Life, bool)
     requires { IsSound ScriptSound (lock_state mem_source_state mem_sink_state mem_sink_state run.now) }
@@ -116,7 +122,7 @@ fn does_acts(rt: HostRuntime) -> Tested {
     let client = script(&rt, rt.alloc())?;
     let mut run = machine(rt.alloc(), &client)?;
     acts(&rt, &mut run)?;
-    assert_eq!(&rt; run.finish().1.written(), b"ab".as_slice());
+    assert_eq!(&rt; output(run).written(), b"ab".as_slice());
     Ok(())
 }
 

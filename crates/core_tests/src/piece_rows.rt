@@ -47,16 +47,10 @@ fn sets_go_on_in_a_piece(rt: HostRuntime) -> Tested {
     Ok(())
 }
 
-/// A List gets no longer in a piece.
-#[test]
-fn a_push_is_no_piece(rt: HostRuntime) -> Tested {
-    let client = script(
-        &rt,
-        rt.alloc(),
-        &[Act::Push(1), Act::Push(2)],
-        &[Act::Look(1)],
-    )?;
-    let mut core = begun(&rt, rt.alloc(), &client, 1_000)?;
+/// Thread 1 pushes, which is no piece, and pushes again.
+fn push_stands(rt: &impl Abort, core: &mut MemCore<'_>) -> Tested
+    requires { IsGoodScriptCore core.old }
+{
     let list = [
         Event::Begin(0, 1),
         Event::Advance(0, 1),
@@ -69,16 +63,26 @@ fn a_push_is_no_piece(rt: HostRuntime) -> Tested {
         Reply::Installed(0),
         Reply::Advanced(Advance::Ended(1)),
     ];
-    play(&rt, &mut core, &list, &wanted)?;
-    Ok(())
+    play(rt, core, &list, &wanted)
 }
 
-/// A piece has no more steps than its transaction may still do, and is skipped where there are none.
+/// A List gets no longer in a piece.
 #[test]
-fn pieces_are_within_the_length(rt: HostRuntime) -> Tested {
-    let looks = [Act::Look(0); 6];
-    let client = script(&rt, rt.alloc(), &looks, &[Act::Look(1)])?;
+fn a_push_is_no_piece(rt: HostRuntime) -> Tested {
+    let client = script(
+        &rt,
+        rt.alloc(),
+        &[Act::Push(1), Act::Push(2)],
+        &[Act::Look(1)],
+    )?;
     let mut core = begun(&rt, rt.alloc(), &client, 1_000)?;
+    push_stands(&rt, &mut core)
+}
+
+/// Pieces with no transaction, of no step, of no segment, up to the length, and past it.
+fn pieces_of_the_length(rt: &impl Abort, core: &mut MemCore<'_>) -> Tested
+    requires { IsGoodScriptCore core.old }
+{
     let list = [
         Event::Piece(0, 1),
         Event::Begin(0, 1),
@@ -103,8 +107,16 @@ fn pieces_are_within_the_length(rt: HostRuntime) -> Tested {
         Reply::Advanced(Advance::Ended(1)),
         Reply::Skipped,
     ];
-    play(&rt, &mut core, &list, &wanted)?;
-    Ok(())
+    play(rt, core, &list, &wanted)
+}
+
+/// A piece has no more steps than its transaction may still do, and is skipped where there are none.
+#[test]
+fn pieces_are_within_the_length(rt: HostRuntime) -> Tested {
+    let looks = [Act::Look(0); 6];
+    let client = script(&rt, rt.alloc(), &looks, &[Act::Look(1)])?;
+    let mut core = begun(&rt, rt.alloc(), &client, 1_000)?;
+    pieces_of_the_length(&rt, &mut core)
 }
 
 /// The piece of a loan of a segment's transaction.
@@ -153,6 +165,29 @@ fn both_step(rt: &impl Abort, core: &mut MemCore<'_>, first: Advance) -> Tested
     play(rt, core, &list, &wanted)
 }
 
+/// A piece of thread 2 fits until thread 1 commits.
+fn doomed_meanwhile(rt: &impl Abort, alloc: Global, core: &mut MemCore<'_>) -> Tested
+    requires { IsGoodScriptCore core.old }
+{
+    let lost = Conflict {
+        at: cell(rt, core, 0),
+        writer: side(0, 1, 1),
+        other: side(1, 2, 2),
+        asks: false,
+        lost: 1,
+    };
+    both_step(rt, core, Advance::Ended(1))?;
+    let piece = piece_of(rt, alloc, core, 1)?;
+    assert_eq!(rt; piece.steps, 1);
+    assert!(rt; piece.end == PieceEnd::NeedHeap);
+    assert!(rt; fits(rt, core, 1, &piece));
+    play(rt, core, &[Event::Commit(0)], &[Reply::Committed(1)])?;
+    assert!(rt; !fits(rt, core, 1, &piece));
+    let list = [Event::Piece(1, 1), Event::Piece(1, 1)];
+    let wanted = [Reply::Lost(lost), Reply::Skipped];
+    play(rt, core, &list, &wanted)
+}
+
 /// A piece of a transaction that is doomed before it comes back doesn't fit, and the segment is told its conflict.
 #[test]
 fn a_doomed_piece_does_not_fit(rt: HostRuntime) -> Tested {
@@ -163,23 +198,24 @@ fn a_doomed_piece_does_not_fit(rt: HostRuntime) -> Tested {
         &[Act::Look(0), Act::Look(0), Act::Look(1)],
     )?;
     let mut core = begun(&rt, rt.alloc(), &client, 1_000)?;
-    let lost = Conflict {
-        at: cell(&rt, &core, 0),
-        writer: side(0, 1, 1),
-        other: side(1, 2, 2),
-        asks: false,
-        lost: 1,
-    };
-    both_step(&rt, &mut core, Advance::Ended(1))?;
-    let piece = piece_of(&rt, rt.alloc(), &mut core, 1)?;
-    assert_eq!(&rt; piece.steps, 1);
-    assert!(&rt; piece.end == PieceEnd::NeedHeap);
-    assert!(&rt; fits(&rt, &core, 1, &piece));
-    play(&rt, &mut core, &[Event::Commit(0)], &[Reply::Committed(1)])?;
-    assert!(&rt; !fits(&rt, &core, 1, &piece));
-    let list = [Event::Piece(1, 1), Event::Piece(1, 1)];
-    let wanted = [Reply::Lost(lost), Reply::Skipped];
-    play(&rt, &mut core, &list, &wanted)?;
+    doomed_meanwhile(&rt, rt.alloc(), &mut core)
+}
+
+/// A piece of thread 1 fits its segment alone, and only until the thread goes on.
+fn goes_on_meanwhile(rt: &impl Abort, alloc: Global, core: &mut MemCore<'_>) -> Tested
+    requires { IsGoodScriptCore core.old }
+{
+    both_step(rt, core, Advance::Ran(1))?;
+    let piece = piece_of(rt, alloc, core, 0)?;
+    assert_eq!(rt; piece.steps, 2);
+    assert!(rt; piece.end == PieceEnd::Ended);
+    assert!(rt; fits(rt, core, 0, &piece));
+    assert!(rt; !fits(rt, core, 1, &piece));
+    assert!(rt; !fits(rt, core, 2, &piece));
+    let list = [Event::Advance(0, 1)];
+    let wanted = [Reply::Advanced(Advance::Ran(1))];
+    play(rt, core, &list, &wanted)?;
+    assert!(rt; !fits(rt, core, 0, &piece));
     Ok(())
 }
 
@@ -189,16 +225,5 @@ fn an_old_piece_does_not_fit(rt: HostRuntime) -> Tested {
     let acts = [Act::Look(0), Act::Look(0), Act::Look(0)];
     let client = script(&rt, rt.alloc(), &acts, &acts)?;
     let mut core = begun(&rt, rt.alloc(), &client, 1_000)?;
-    both_step(&rt, &mut core, Advance::Ran(1))?;
-    let piece = piece_of(&rt, rt.alloc(), &mut core, 0)?;
-    assert_eq!(&rt; piece.steps, 2);
-    assert!(&rt; piece.end == PieceEnd::Ended);
-    assert!(&rt; fits(&rt, &core, 0, &piece));
-    assert!(&rt; !fits(&rt, &core, 1, &piece));
-    assert!(&rt; !fits(&rt, &core, 2, &piece));
-    let list = [Event::Advance(0, 1)];
-    let wanted = [Reply::Advanced(Advance::Ran(1))];
-    play(&rt, &mut core, &list, &wanted)?;
-    assert!(&rt; !fits(&rt, &core, 0, &piece));
-    Ok(())
+    goes_on_meanwhile(&rt, rt.alloc(), &mut core)
 }

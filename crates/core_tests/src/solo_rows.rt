@@ -1,5 +1,9 @@
 //! Scripts on a core whose transactions become solo: what they print, whom they doom, and what a device's fault leaves.
-use crate::core_rows::{Tested, begun, begun_over, cell, committed, play, script, side, slot};
+ghost use Rattle.core_tests.specs.ScriptCore.{IsGoodScriptCore};
+
+use crate::core_rows::{
+    MemCore, Tested, begun, begun_over, cell, committed, outcome, play, script, side, slot,
+};
 use lock_run::Act;
 use py_data::{Conflict, Side, Value};
 use seg_store::SegStore;
@@ -30,7 +34,7 @@ fn failing(alloc: Global, call: u64) -> Result<MemSink, test::Fail> {
 fn listed(
     rt: &impl Abort,
     alloc: Global,
-    core: &crate::core_rows::MemCore<'_>,
+    core: &MemCore<'_>,
     k: u8,
 ) -> Result<Vec<i64>, test::Fail> {
     let a = cell(rt, core, 2);
@@ -46,13 +50,22 @@ fn listed(
     Ok(numbers)
 }
 
-/// One that began later and is solo dooms the writer of the Cell that it sets.
-#[test]
-fn solo_wins(rt: HostRuntime) -> Tested {
-    let client = script(&rt, rt.alloc(), &[Act::Set(0, 1)], &[Act::Set(0, 2)])?;
-    let mut core = begun(&rt, rt.alloc(), &client, 1_000)?;
+/// Finishes a core: its run stands so, its history has so many turns, and these bytes were written.
+fn ends(rt: &impl Abort, core: MemCore<'_>, state: RunState, turns: usize, out: &[u8])
+    requires { IsGoodScriptCore core }
+{
+    let finished = core.finish();
+    assert!(rt; finished.state == state);
+    assert_eq!(rt; finished.history.len(), turns);
+    assert_eq!(rt; finished.out.written(), out);
+}
+
+/// Thread 2 becomes solo, and dooms thread 1, which has set the Cell.
+fn writer_is_doomed(rt: &impl Abort, core: &mut MemCore<'_>) -> Tested
+    requires { IsGoodScriptCore core.old }
+{
     let lost = Conflict {
-        at: cell(&rt, &core, 0),
+        at: cell(rt, core, 0),
         writer: side(0, 1, 1),
         other: solo_side(1, 2, 2),
         asks: true,
@@ -76,21 +89,23 @@ fn solo_wins(rt: HostRuntime) -> Tested {
         Reply::Committed(1),
         Reply::Lost(lost),
     ];
-    play(&rt, &mut core, &list, &wanted)?;
-    assert_eq!(&rt; committed(&rt, &core, 0), 2);
+    play(rt, core, &list, &wanted)?;
+    assert_eq!(rt; committed(rt, core, 0), 2);
     Ok(())
 }
 
-/// While one is solo another is told whose, and runs on.
+/// One that began later and is solo dooms the writer of the Cell that it sets.
 #[test]
-fn one_is_solo(rt: HostRuntime) -> Tested {
-    let client = script(
-        &rt,
-        rt.alloc(),
-        &[Act::Look(0), Act::Put(65)],
-        &[Act::Look(0), Act::Put(66)],
-    )?;
+fn solo_wins(rt: HostRuntime) -> Tested {
+    let client = script(&rt, rt.alloc(), &[Act::Set(0, 1)], &[Act::Set(0, 2)])?;
     let mut core = begun(&rt, rt.alloc(), &client, 1_000)?;
+    writer_is_doomed(&rt, &mut core)
+}
+
+/// Thread 1 becomes solo; thread 2 is told so, and runs.
+fn second_is_told(rt: &impl Abort, core: &mut MemCore<'_>) -> Tested
+    requires { IsGoodScriptCore core.old }
+{
     let list = [
         Event::Begin(0, 1),
         Event::Begin(1, 2),
@@ -109,28 +124,36 @@ fn one_is_solo(rt: HostRuntime) -> Tested {
         Reply::Unsolo(SoloError::Taken { by: 0 }),
         Reply::Skipped,
     ];
-    play(&rt, &mut core, &list, &wanted)?;
+    play(rt, core, &list, &wanted)?;
     let running = Slot::Running {
         thread: 2,
         steps: 1,
         solo: false,
     };
-    assert!(&rt; slot(&rt, &core, 1) == running);
+    assert!(rt; slot(rt, core, 1) == running);
     Ok(())
 }
 
-/// A push of one that becomes solo is seen by the other, which pushed first and is aborted.
+/// While one is solo another is told whose, and runs on.
 #[test]
-fn an_aborted_push_is_done_again(rt: HostRuntime) -> Tested {
+fn one_is_solo(rt: HostRuntime) -> Tested {
     let client = script(
         &rt,
         rt.alloc(),
-        &[Act::Push(7), Act::Look(0)],
-        &[Act::Push(8)],
+        &[Act::Look(0), Act::Put(65)],
+        &[Act::Look(0), Act::Put(66)],
     )?;
     let mut core = begun(&rt, rt.alloc(), &client, 1_000)?;
+    second_is_told(&rt, &mut core)
+}
+
+/// Thread 1 pushes, and thread 2 becomes solo, pushes and commits: what thread 1 did is lost.
+fn push_is_lost(rt: &impl Abort, core: &mut MemCore<'_>) -> Tested
+    requires { IsGoodScriptCore core.old }
+    ensures { IsGoodScriptCore core.new }
+{
     let lost = Conflict {
-        at: cell(&rt, &core, 2),
+        at: cell(rt, core, 2),
         writer: side(0, 1, 1),
         other: solo_side(1, 2, 2),
         asks: true,
@@ -154,29 +177,42 @@ fn an_aborted_push_is_done_again(rt: HostRuntime) -> Tested {
         Reply::Committed(1),
         Reply::Lost(lost),
     ];
-    play(&rt, &mut core, &list, &wanted)?;
-    assert_eq!(&rt;
-        listed(&rt, rt.alloc(), &core, 2)?.as_slice(),
-        [8].as_slice()
-    );
-    assert!(&rt; slot(&rt, &core, 0) == Slot::Idle);
+    play(rt, core, &list, &wanted)
+}
+
+/// The push of thread 1 is lost, and is done again after that of thread 2.
+fn pushes_again(rt: &impl Abort, alloc: Global, core: &mut MemCore<'_>) -> Tested
+    requires { IsGoodScriptCore core.old }
+{
+    push_is_lost(rt, core)?;
+    assert_eq!(rt; listed(rt, alloc, core, 2)?.as_slice(), [8].as_slice());
+    assert!(rt; slot(rt, core, 0) == Slot::Idle);
     let list = [Event::Begin(0, 1), Event::Advance(0, 1)];
     let wanted = [Reply::Begun, Reply::Advanced(Advance::Ran(1))];
-    play(&rt, &mut core, &list, &wanted)?;
-    assert_eq!(&rt;
-        listed(&rt, rt.alloc(), &core, 0)?.as_slice(),
-        [8, 7].as_slice()
-    );
+    play(rt, core, &list, &wanted)?;
+    assert_eq!(rt; listed(rt, alloc, core, 0)?.as_slice(), [8, 7].as_slice());
     Ok(())
 }
 
-/// A doomed one that wants to be solo is told the conflict that it lost.
+/// A push of one that becomes solo is seen by the other, which pushed first and is aborted.
 #[test]
-fn a_doomed_one_is_not_solo(rt: HostRuntime) -> Tested {
-    let client = script(&rt, rt.alloc(), &[Act::Set(0, 1)], &[Act::Look(0)])?;
+fn an_aborted_push_is_done_again(rt: HostRuntime) -> Tested {
+    let client = script(
+        &rt,
+        rt.alloc(),
+        &[Act::Push(7), Act::Look(0)],
+        &[Act::Push(8)],
+    )?;
     let mut core = begun(&rt, rt.alloc(), &client, 1_000)?;
+    pushes_again(&rt, rt.alloc(), &mut core)
+}
+
+/// Thread 1 dooms thread 2, which is told so where it wants to be solo.
+fn doomed_is_told(rt: &impl Abort, core: &mut MemCore<'_>) -> Tested
+    requires { IsGoodScriptCore core.old }
+{
     let lost = Conflict {
-        at: cell(&rt, &core, 0),
+        at: cell(rt, core, 0),
         writer: side(0, 1, 1),
         other: side(1, 2, 2),
         asks: false,
@@ -200,20 +236,22 @@ fn a_doomed_one_is_not_solo(rt: HostRuntime) -> Tested {
         Reply::Unsolo(SoloError::Lost(lost)),
         Reply::Skipped,
     ];
-    play(&rt, &mut core, &list, &wanted)?;
-    Ok(())
+    play(rt, core, &list, &wanted)
 }
 
-/// A step prints only once its transaction is solo, and at once; and the end commits it.
+/// A doomed one that wants to be solo is told the conflict that it lost.
 #[test]
-fn the_end_commits_a_solo_one(rt: HostRuntime) -> Tested {
-    let client = script(
-        &rt,
-        rt.alloc(),
-        &[Act::Set(0, 3), Act::Put(65), Act::Put(66)],
-        &[Act::Look(1)],
-    )?;
+fn a_doomed_one_is_not_solo(rt: HostRuntime) -> Tested {
+    let client = script(&rt, rt.alloc(), &[Act::Set(0, 1)], &[Act::Look(0)])?;
     let mut core = begun(&rt, rt.alloc(), &client, 1_000)?;
+    doomed_is_told(&rt, &mut core)
+}
+
+/// Thread 1 becomes solo and prints.
+fn prints_solo(rt: &impl Abort, core: &mut MemCore<'_>) -> Tested
+    requires { IsGoodScriptCore core.old }
+    ensures { IsGoodScriptCore core.new }
+{
     let list = [
         Event::Begin(0, 1),
         Event::Begin(1, 2),
@@ -228,26 +266,31 @@ fn the_end_commits_a_solo_one(rt: HostRuntime) -> Tested {
         Reply::Solo,
         Reply::Advanced(Advance::Ended(2)),
     ];
-    play(&rt, &mut core, &list, &wanted)?;
-    assert!(&rt; core.outcome() == RunState::Running);
-    let finished = core.finish();
-    assert_eq!(&rt; finished.out.written(), b"AB".as_slice());
-    assert_eq!(&rt; finished.history.len(), 2);
-    assert!(&rt; finished.state == RunState::Running);
+    play(rt, core, &list, &wanted)?;
+    assert!(rt; outcome(core) == RunState::Running);
     Ok(())
 }
 
-/// A fault of the output leaves the transaction committed up to its last whole step, and the core goes on no more.
+/// A step prints only once its transaction is solo, and at once; and the end commits it.
 #[test]
-fn a_fault_ends_the_run(rt: HostRuntime) -> Tested {
+fn the_end_commits_a_solo_one(rt: HostRuntime) -> Tested {
     let client = script(
         &rt,
         rt.alloc(),
-        &[Act::Set(0, 5), Act::Put(65), Act::Put(66)],
+        &[Act::Set(0, 3), Act::Put(65), Act::Put(66)],
         &[Act::Look(1)],
     )?;
-    let out = failing(rt.alloc(), 2)?;
-    let mut core = begun_over(&rt, rt.alloc(), &client, 1_000, out)?;
+    let mut core = begun(&rt, rt.alloc(), &client, 1_000)?;
+    prints_solo(&rt, &mut core)?;
+    ends(&rt, core, RunState::Running, 2, b"AB");
+    Ok(())
+}
+
+/// Thread 1 is solo, and its second byte is not written.
+fn second_print_fails(rt: &impl Abort, core: &mut MemCore<'_>) -> Tested
+    requires { IsGoodScriptCore core.old }
+    ensures { IsGoodScriptCore core.new }
+{
     let list = [
         Event::Begin(0, 1),
         Event::Begin(1, 2),
@@ -264,22 +307,33 @@ fn a_fault_ends_the_run(rt: HostRuntime) -> Tested {
         Reply::Unsolo(SoloError::Over(Cause::WriteFault)),
         Reply::Refused(BeginError::Over(Cause::WriteFault)),
     ];
-    play(&rt, &mut core, &list, &wanted)?;
-    assert_eq!(&rt; committed(&rt, &core, 0), 5);
-    assert!(&rt; slot(&rt, &core, 0) == Slot::Idle);
-    let finished = core.finish();
-    assert!(&rt; finished.state == RunState::Faulted(Cause::WriteFault));
-    assert_eq!(&rt; finished.out.written(), b"A".as_slice());
-    assert_eq!(&rt; finished.history.len(), 2);
+    play(rt, core, &list, &wanted)?;
+    assert_eq!(rt; committed(rt, core, 0), 5);
+    assert!(rt; slot(rt, core, 0) == Slot::Idle);
     Ok(())
 }
 
-/// One whose first step is cut so is dropped.
+/// A fault of the output leaves the transaction committed up to its last whole step, and the core goes on no more.
 #[test]
-fn a_fault_in_the_first_step_leaves_no_turn(rt: HostRuntime) -> Tested {
-    let client = script(&rt, rt.alloc(), &[Act::Put(65)], &[Act::Look(1)])?;
-    let out = failing(rt.alloc(), 1)?;
+fn a_fault_ends_the_run(rt: HostRuntime) -> Tested {
+    let client = script(
+        &rt,
+        rt.alloc(),
+        &[Act::Set(0, 5), Act::Put(65), Act::Put(66)],
+        &[Act::Look(1)],
+    )?;
+    let out = failing(rt.alloc(), 2)?;
     let mut core = begun_over(&rt, rt.alloc(), &client, 1_000, out)?;
+    second_print_fails(&rt, &mut core)?;
+    ends(&rt, core, RunState::Faulted(Cause::WriteFault), 2, b"A");
+    Ok(())
+}
+
+/// Thread 1 is solo, and its first step fails.
+fn first_print_fails(rt: &impl Abort, core: &mut MemCore<'_>) -> Tested
+    requires { IsGoodScriptCore core.old }
+    ensures { IsGoodScriptCore core.new }
+{
     let list = [
         Event::Begin(0, 1),
         Event::Advance(0, 1),
@@ -292,9 +346,16 @@ fn a_fault_in_the_first_step_leaves_no_turn(rt: HostRuntime) -> Tested {
         Reply::Solo,
         Reply::Failed(Cause::WriteFault),
     ];
-    play(&rt, &mut core, &list, &wanted)?;
-    let finished = core.finish();
-    assert_eq!(&rt; finished.out.written(), b"".as_slice());
-    assert_eq!(&rt; finished.history.len(), 1);
+    play(rt, core, &list, &wanted)
+}
+
+/// One whose first step is cut so is dropped.
+#[test]
+fn a_fault_in_the_first_step_leaves_no_turn(rt: HostRuntime) -> Tested {
+    let client = script(&rt, rt.alloc(), &[Act::Put(65)], &[Act::Look(1)])?;
+    let out = failing(rt.alloc(), 1)?;
+    let mut core = begun_over(&rt, rt.alloc(), &client, 1_000, out)?;
+    first_print_fails(&rt, &mut core)?;
+    ends(&rt, core, RunState::Faulted(Cause::WriteFault), 1, b"");
     Ok(())
 }

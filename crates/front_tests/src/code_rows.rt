@@ -42,7 +42,9 @@ fn instructions_of_the_stack_and_names(rt: HostRuntime) -> Tested {
         Instr::DelAttr(12),
     ];
     let want =
-        "[Setup, Const(None), Const(Truth(true)), Const(Int(-7)), Const(Builtin(13)), Const(Root(21)), Pop, Dup, Rot2, Dup2, Rot3, LoadLocal(1), StoreLocal(2), DelLocal(3), LoadGlobal(4), StoreGlobal(5), DelGlobal(6), LoadName(7), StoreName(8), DelName(9), LoadAttr(10), StoreAttr(11), DelAttr(12)]";
+        "[Setup, Const(None), Const(Truth(true)), Const(Int(-7)), Const(Builtin(13)), Const(Root(21)), Pop, Dup, Rot2, \
+         Dup2, Rot3, LoadLocal(1), StoreLocal(2), DelLocal(3), LoadGlobal(4), StoreGlobal(5), DelGlobal(6), \
+         LoadName(7), StoreName(8), DelName(9), LoadAttr(10), StoreAttr(11), DelAttr(12)]";
     assert_eq!(rt; printed(rt.alloc(), instrs.as_slice())?.as_str(), want);
     Ok(())
 }
@@ -70,7 +72,9 @@ fn instructions_of_values_and_places(rt: HostRuntime) -> Tested {
         Instr::Unpack(25),
     ];
     let want =
-        "[LoadMethod(13), LoadItem, StoreItem, DelItem, Slice, Unary(14), Not, Binary(15), InPlace(16), Compare(17), Jump(18), JumpFalse(19), KeepFalse(20), KeepTrue(21), BuildTuple(22), BuildList(23), BuildDict(24), Unpack(25)]";
+        "[LoadMethod(13), LoadItem, StoreItem, DelItem, Slice, Unary(14), Not, Binary(15), InPlace(16), Compare(17), \
+         Jump(18), JumpFalse(19), KeepFalse(20), KeepTrue(21), BuildTuple(22), BuildList(23), BuildDict(24), \
+         Unpack(25)]";
     assert_eq!(rt; printed(rt.alloc(), instrs.as_slice())?.as_str(), want);
     Ok(())
 }
@@ -94,7 +98,8 @@ fn instructions_of_calls_and_blocks(rt: HostRuntime) -> Tested {
         Instr::PrintNewline,
     ];
     let want =
-        "[Iter, Next(26), Call(27, 28), CallMethod(29, 30), Return, MakeFunction(31, 32), ClassBody(33), Try(34), PopTry, ExcMatch, MakeRaised(35), Raise, PrintItem, PrintNewline]";
+        "[Iter, Next(26), Call(27, 28), CallMethod(29, 30), Return, MakeFunction(31, 32), ClassBody(33), Try(34), \
+         PopTry, ExcMatch, MakeRaised(35), Raise, PrintItem, PrintNewline]";
     assert_eq!(rt; printed(rt.alloc(), instrs.as_slice())?.as_str(), want);
     Ok(())
 }
@@ -137,7 +142,10 @@ fn programs(rt: HostRuntime) -> Tested {
     })?;
     let program = Program { codes, roots };
     let want =
-        "Program { codes: Items { items: [Code { name: Items { items: [102] }, instrs: Items { items: [LoadLocal(0), Unary(1), Return] }, lines: Items { items: [2, 2, 2] }, slots: Items { items: [Items { items: [97] }, Items { items: [] }] }, params: 1, keys: Items { items: [Items { items: [] }] } }] }, roots: Items { items: [Root { kind: Class, number: 17, bytes: Items { items: [] } }] } }";
+        "Program { codes: Items { items: [Code { name: Items { items: [102] }, instrs: Items { items: [LoadLocal(0), \
+         Unary(1), Return] }, lines: Items { items: [2, 2, 2] }, slots: Items { items: [Items { items: [97] }, Items { \
+         items: [] }] }, params: 1, keys: Items { items: [Items { items: [] }] } }] }, roots: Items { items: [Root { \
+         kind: Class, number: 17, bytes: Items { items: [] } }] } }";
     assert_eq!(rt; format!(in alloc; "{program:?}")?.as_str(), want);
     Ok(())
 }
