@@ -562,11 +562,11 @@ on_ok_two (Ok x) f p q = f p q
 on_ok_two (Err x) f p q = tt
 
 -- by cases of what a call answered that was to hold the record
-pub held_by_cases : {S A : Type 0} (k : ℕ) (me : Side) (a : ℕ) (d : Hold S) (x : Result A Stop) (e : Hold S) →
+pub held_by_cases : {S A : Type 0} (k : ℕ) (me : Side) (a : ℕ) (x : Result A Stop) (d e : Hold S) →
     OnOk x (Holds k me a d e) → IfErr x (λ s. s ≡ stop_of e.last.halt) → OnErr x (Fails k me a d e.last.halt e)
-    → HoldsOrFails k me a d x e
-held_by_cases k me a d (Ok u) e ok word err = ok
-held_by_cases k me a d (Err s) e ok word err = (word, err)
+    → HoldsOrFails k me a x d e
+held_by_cases k me a (Ok u) d e ok word err = ok
+held_by_cases k me a (Err s) d e ok word err = (word, err)
 
 -- the view once another segment was doomed
 pub record AfterDoom {S : Type 0} (k : ℕ) (me : Side) (j : ℕ) (f : Conflict) (m : Meaning) (r : ℕ) (b : Books S)
@@ -598,7 +598,7 @@ module _ {S : Type 0} (k : ℕ) (me : Side) (j : ℕ) (f : Conflict) (m : Meanin
   fails_then : (s : Halt) → Fails k1 me1 a (holding m1 r1 b1 p1 o1) s e → Fails k me a (holding m r b p o) s e
   fails_then s h = fails_after k me a j f m r b b1 p o s e d.dooms at (moved (λ i z x. Fails i z a x s e) h)
 
-  pub held_then : {A : Type 0} (x : Result A Stop) → HoldsOrFails k1 me1 a (holding m1 r1 b1 p1 o1) x e →
-      HoldsOrFails k me a (holding m r b p o) x e
+  pub held_then : {A : Type 0} (x : Result A Stop) → HoldsOrFails k1 me1 a x (holding m1 r1 b1 p1 o1) e →
+      HoldsOrFails k me a x (holding m r b p o) e
   held_then (Ok u) h = holds_then h
   held_then (Err s) h = (h.0, fails_then e.last.halt h.1)

@@ -12,15 +12,13 @@ use stm_io::{Sink, Source};
 impl<'p, C: Client, S: SegStore, I: Source, O: Sink, E: Sink> Core<'p, C, S, I, O, E> {
     ghost use Rattle.std.specs.Prelude.{◌≡◌, ◌<◌, ◌≤◌, ◌+◌, ◌/◌, ℕ, true, false, length, slice_get, Some, List, Option};
     ghost use Rattle.lock_run.specs.declared.client.Life.TheVariants.{Lives};
-    ghost use Rattle.seg_store.specs.Store.{IsStore};
     ghost use Rattle.stm_core.specs.CoreState.{IsShort, Running};
     ghost use Rattle.stm_core.specs.Outside.{Outer};
-    ghost use Rattle.stm_core.specs.Devices.{DeviceState, Shown, StopRose, device_state};
+    ghost use Rattle.stm_core.specs.Devices.{DeviceState, StopRose, device_state};
     ghost use Rattle.stm_core.specs.Books.{Fit, Worlds, transaction};
     ghost use Rattle.stm_core.specs.inner.Whole.{Whole, SameShape};
-    ghost use Rattle.stm_core.specs.inner.Trying.{SaneShown, core_with};
+    ghost use Rattle.stm_core.specs.inner.Going.{MayGoOn, GoneOn};
     ghost use Rattle.stm_core.specs.InUse.{IfTold, RisesWithin};
-    ghost use Rattle.stm_core.specs.inner.Rising.{RisesOut};
     ghost use Rattle.stm_core.specs.Begun.{CountsSteps};
     ghost use Rattle.stm_core.specs.Events.{may_make};
     ghost use Rattle.stm_core.specs.declared.events.Event.{Event};
@@ -29,7 +27,7 @@ impl<'p, C: Client, S: SegStore, I: Source, O: Sink, E: Sink> Core<'p, C, S, I, 
     ghost use Rattle.stm_core.specs.inner.Pauses.{tried_by, PauseCount};
     ghost use Rattle.stm_core.specs.inner.Pausing.{PauseWhy, PauseRose};
     ghost use Rattle.stm_core.specs.Advanced.{CountsDone, tried_after, Ends, StepsTaken, AdvancedFrom, Advanced};
-    ghost use Rattle.stm_core.specs.inner.Settled.{IsOut, IsTakenOut, SettledTo, KeepsOrRose, Rises};
+    ghost use Rattle.stm_core.specs.inner.Settled.{IsOut, IsTakenOut, SettledTo, KeepsOrRose};
 
     /// What comes of a transaction of segment k, which was taken out of its hand, once its next step was cut.
     fn settle_stop(
@@ -162,34 +160,11 @@ impl<'p, C: Client, S: SegStore, I: Source, O: Sink, E: Sink> Core<'p, C, S, I, 
         most: u64,
         length: u64,
     ) -> Result<Advance, AdvanceError>
-        requires fit { Fit k (S.meaning self.old.store) self.old.books work.progress }
-        requires store { IsStore (S.reserved self.old.store) (S.meaning self.old.store) }
-        requires idle { slice_get self.old.books.hands.items k ≡ Some Hand.Idle }
-        requires count { CountsSteps self.old.spent self.old.books.history.entries }
-        requires sane { SaneShown (C.prog self.old.client.now) (C.sound self.old.client.now) length k
-            (device_state I.state O.state E.state self.old.devices) (S.meaning self.old.store) self.old.books work }
+        requires out { MayGoOn I.state O.state E.state C.prog S.meaning S.reserved C.sound length k work self.old }
         requires lives { (C.prog self.old.client.now).life work.state ≡ Lives }
         requires short { IsShort length (work.steps + most) }
-        ensures rest { self.new ≡ record self.old {
-          store = self.new.store;
-          books = self.new.books;
-          devices = self.new.devices;
-          spent = self.new.spent;
-        } }
-        ensures shape { SameShape (S.meaning self.old.store) (S.meaning self.new.store) }
-        ensures reserved { S.reserved self.old.store ≤ S.reserved self.new.store }
-        ensures peaks { (t e : Option (List ℕ)) (w : Worlds)
-            → Shown work.solo t e (device_state I.state O.state E.state self.old.devices) w.own
-            → IfTold (S.peaks self.old.store) (S.peaks self.new.store)
-            (RisesOut (C.prog self.old.client.now) length k (S.meaning self.old.store)
-            (core_with w k (S.meaning self.old.store) self.old.books work)) }
-        ensures whole { Whole (S.meaning self.new.store) self.new.books }
-        ensures count { CountsSteps self.new.spent self.new.books.history.entries }
-        ensures rises { Rises self.old.books.cause self.new.books.cause
-            (device_state I.state O.state E.state self.old.devices)
-            (device_state I.state O.state E.state self.new.devices) }
-        ensures fault { FaultRose result (device_state I.state O.state E.state self.old.devices)
-            (device_state I.state O.state E.state self.new.devices) }
+        ensures gone { GoneOn I.state O.state E.state C.prog S.meaning S.reserved S.peaks length k work result self.old
+            self.new }
         ensures taken { (t e : Option (List ℕ)) (w : Worlds) (o : Outer C.State)
             → IsTakenOut t e (device_state I.state O.state E.state self.old.devices) w k (S.meaning self.old.store)
             self.old.books work o
@@ -211,33 +186,10 @@ impl<'p, C: Client, S: SegStore, I: Source, O: Sink, E: Sink> Core<'p, C, S, I, 
         most: u64,
         length: u64,
     ) -> Result<Advance, AdvanceError>
-        requires fit { Fit k (S.meaning self.old.store) self.old.books work.progress }
-        requires store { IsStore (S.reserved self.old.store) (S.meaning self.old.store) }
-        requires idle { slice_get self.old.books.hands.items k ≡ Some Hand.Idle }
-        requires count { CountsSteps self.old.spent self.old.books.history.entries }
-        requires sane { SaneShown (C.prog self.old.client.now) (C.sound self.old.client.now) length k
-            (device_state I.state O.state E.state self.old.devices) (S.meaning self.old.store) self.old.books work }
+        requires out { MayGoOn I.state O.state E.state C.prog S.meaning S.reserved C.sound length k work self.old }
         requires short { IsShort length (work.steps + most) }
-        ensures rest { self.new ≡ record self.old {
-          store = self.new.store;
-          books = self.new.books;
-          devices = self.new.devices;
-          spent = self.new.spent;
-        } }
-        ensures shape { SameShape (S.meaning self.old.store) (S.meaning self.new.store) }
-        ensures reserved { S.reserved self.old.store ≤ S.reserved self.new.store }
-        ensures peaks { (t e : Option (List ℕ)) (w : Worlds)
-            → Shown work.solo t e (device_state I.state O.state E.state self.old.devices) w.own
-            → IfTold (S.peaks self.old.store) (S.peaks self.new.store)
-            (RisesOut (C.prog self.old.client.now) length k (S.meaning self.old.store)
-            (core_with w k (S.meaning self.old.store) self.old.books work)) }
-        ensures whole { Whole (S.meaning self.new.store) self.new.books }
-        ensures count { CountsSteps self.new.spent self.new.books.history.entries }
-        ensures rises { Rises self.old.books.cause self.new.books.cause
-            (device_state I.state O.state E.state self.old.devices)
-            (device_state I.state O.state E.state self.new.devices) }
-        ensures fault { FaultRose result (device_state I.state O.state E.state self.old.devices)
-            (device_state I.state O.state E.state self.new.devices) }
+        ensures gone { GoneOn I.state O.state E.state C.prog S.meaning S.reserved S.peaks length k work result self.old
+            self.new }
         ensures advanced { (t e : Option (List ℕ)) (w : Worlds) (o : Outer C.State)
             → IsTakenOut t e (device_state I.state O.state E.state self.old.devices) w k (S.meaning self.old.store)
             self.old.books work o

@@ -21,7 +21,7 @@ ghost use Rattle.stm_core.specs.InUse.{wants_more, RisesUpTo, IfTold};
 ghost use Rattle.stm_core.specs.inner.SegSense.{Seen, RisesThere};
 ghost use Rattle.stm_core.specs.declared.halt.Halt.TheVariants.{OutOfMemory};
 ghost use Rattle.stm_core.specs.inner.Halts.{stop_of, gave, gave_none};
-ghost use Rattle.stm_core.specs.inner.Hold.{holding, halt_of, SegDoes, SegWhy, SegRefuses, FaultWhy, HoldsOrFails, is_noted, Looks};
+ghost use Rattle.stm_core.specs.inner.Hold.{hold_of, halt_of, SegDoes, SegWhy, SegRefuses, FaultWhy, HoldsOrFails, is_noted, Looks};
 
 use crate::books::{Books, Hand, Progress};
 use crate::devices::Devices;
@@ -64,9 +64,8 @@ impl<'a, T: Drop, S: SegStore, I, O, E> SegView<'a, T, S, I, O, E> {
         side: Side,
     ) -> SegView<'a, T, S, I, O, E>
         requires { Fit segment (S.meaning store.old) books.old progress.old }
-        ensures holds { holding (S.meaning result.store.now) (S.reserved result.store.now) result.books.now
-            result.progress.now result.last ≡ holding (S.meaning store.old) (S.reserved store.old) books.old
-            progress.old gave_none }
+        ensures holds { hold_of S.meaning S.reserved result.store.now result.books.now result.progress.now result.last
+            ≡ hold_of S.meaning S.reserved store.old books.old progress.old gave_none }
         ensures peaks { S.peaks result.store.now ≡ S.peaks store.old }
         ensures tells { result.devices.now ≡ devices.old }
         ensures stays { (result.segment ≡ segment) × (result.side ≡ side) }
@@ -106,13 +105,11 @@ impl<'a, T: Drop, S: SegStore, I, O, E> SegView<'a, T, S, I, O, E> {
         ensures progress { self.new.progress.now ≡ self.old.progress.now }
         ensures refuses { (c : Call T)
             → SegWhy self.old.segment self.old.side halt c (sees (S.meaning self.old.store.now) self.old.segment)
-            (holding (S.meaning self.new.store.now) (S.reserved self.new.store.now) self.new.books.now
-            self.new.progress.now self.new.last)
+            (hold_of S.meaning S.reserved self.new.store.now self.new.books.now self.new.progress.now self.new.last)
             → SegRefuses self.old.segment self.old.side c
-            (holding (S.meaning self.old.store.now) (S.reserved self.old.store.now) self.old.books.now
-            self.old.progress.now self.old.last) self.new.last.halt
-            (holding (S.meaning self.new.store.now) (S.reserved self.new.store.now) self.new.books.now
-            self.new.progress.now self.new.last) }
+            (hold_of S.meaning S.reserved self.old.store.now self.old.books.now self.old.progress.now self.old.last)
+            self.new.last.halt
+            (hold_of S.meaning S.reserved self.new.store.now self.new.books.now self.new.progress.now self.new.last) }
     {
         let stop = halt.stop();
         self.last = LastStop {
@@ -246,11 +243,9 @@ impl<'a, T: Drop, S: SegStore, I, O, E> SegView<'a, T, S, I, O, E> {
         requires there { Has (sees (S.meaning self.old.store.now) self.old.segment) a.0 }
         requires tracked { is_tracked (at (sees (S.meaning self.old.store.now) self.old.segment) a.0).kind ≡ true }
         requires held { holds ((S.meaning self.old.store.now).part self.old.segment) a.0 ≡ true }
-        ensures held { HoldsOrFails self.old.segment self.old.side a.0
-            (holding (S.meaning self.old.store.now) (S.reserved self.old.store.now) self.old.books.now
-            self.old.progress.now self.old.last) result
-            (holding (S.meaning self.new.store.now) (S.reserved self.new.store.now) self.new.books.now
-            self.new.progress.now self.new.last) }
+        ensures held { HoldsOrFails self.old.segment self.old.side a.0 result
+            (hold_of S.meaning S.reserved self.old.store.now self.old.books.now self.old.progress.now self.old.last)
+            (hold_of S.meaning S.reserved self.new.store.now self.new.books.now self.new.progress.now self.new.last) }
         ensures stays { (self.new.segment ≡ self.old.segment) × (self.new.side ≡ self.old.side)
             × (self.new.devices ≡ self.old.devices) }
         ensures refs { (self.new.store.ghost_name ≡ self.old.store.ghost_name)
@@ -267,11 +262,9 @@ impl<'a, T: Drop, S: SegStore, I, O, E> SegView<'a, T, S, I, O, E> {
         requires there { Has (sees (S.meaning self.old.store.now) self.old.segment) a.0 }
         requires tracked { is_tracked (at (sees (S.meaning self.old.store.now) self.old.segment) a.0).kind ≡ true }
         requires free { NoOther (S.meaning self.old.store.now) self.old.segment a.0 }
-        ensures held { HoldsOrFails self.old.segment self.old.side a.0
-            (holding (S.meaning self.old.store.now) (S.reserved self.old.store.now) self.old.books.now
-            self.old.progress.now self.old.last) result
-            (holding (S.meaning self.new.store.now) (S.reserved self.new.store.now) self.new.books.now
-            self.new.progress.now self.new.last) }
+        ensures held { HoldsOrFails self.old.segment self.old.side a.0 result
+            (hold_of S.meaning S.reserved self.old.store.now self.old.books.now self.old.progress.now self.old.last)
+            (hold_of S.meaning S.reserved self.new.store.now self.new.books.now self.new.progress.now self.new.last) }
         ensures stays { (self.new.segment ≡ self.old.segment) × (self.new.side ≡ self.old.side)
             × (self.new.devices ≡ self.old.devices) }
         ensures refs { (self.new.store.ghost_name ≡ self.old.store.ghost_name)
@@ -293,11 +286,9 @@ impl<'a, T: Drop, S: SegStore, I, O, E> SegView<'a, T, S, I, O, E> {
         requires there { Has (sees (S.meaning self.old.store.now) self.old.segment) a.0 }
         requires tracked { is_tracked (at (sees (S.meaning self.old.store.now) self.old.segment) a.0).kind ≡ true }
         requires held { holds ((S.meaning self.old.store.now).part j) a.0 ≡ true }
-        ensures held { HoldsOrFails self.old.segment self.old.side a.0
-            (holding (S.meaning self.old.store.now) (S.reserved self.old.store.now) self.old.books.now
-            self.old.progress.now self.old.last) result
-            (holding (S.meaning self.new.store.now) (S.reserved self.new.store.now) self.new.books.now
-            self.new.progress.now self.new.last) }
+        ensures held { HoldsOrFails self.old.segment self.old.side a.0 result
+            (hold_of S.meaning S.reserved self.old.store.now self.old.books.now self.old.progress.now self.old.last)
+            (hold_of S.meaning S.reserved self.new.store.now self.new.books.now self.new.progress.now self.new.last) }
         ensures stays { (self.new.segment ≡ self.old.segment) × (self.new.side ≡ self.old.side)
             × (self.new.devices ≡ self.old.devices) }
         ensures refs { (self.new.store.ghost_name ≡ self.old.store.ghost_name)
@@ -332,11 +323,9 @@ impl<'a, T: Drop, S: SegStore, I, O, E> SegView<'a, T, S, I, O, E> {
     fn hold(&mut self, a: Addr) -> Result<(), Stop>
         requires there { Has (sees (S.meaning self.old.store.now) self.old.segment) a.0 }
         requires tracked { is_tracked (at (sees (S.meaning self.old.store.now) self.old.segment) a.0).kind ≡ true }
-        ensures held { HoldsOrFails self.old.segment self.old.side a.0
-            (holding (S.meaning self.old.store.now) (S.reserved self.old.store.now) self.old.books.now
-            self.old.progress.now self.old.last) result
-            (holding (S.meaning self.new.store.now) (S.reserved self.new.store.now) self.new.books.now
-            self.new.progress.now self.new.last) }
+        ensures held { HoldsOrFails self.old.segment self.old.side a.0 result
+            (hold_of S.meaning S.reserved self.old.store.now self.old.books.now self.old.progress.now self.old.last)
+            (hold_of S.meaning S.reserved self.new.store.now self.new.books.now self.new.progress.now self.new.last) }
         ensures stays { (self.new.segment ≡ self.old.segment) × (self.new.side ≡ self.old.side)
             × (self.new.devices ≡ self.old.devices) }
         ensures refs { (self.new.store.ghost_name ≡ self.old.store.ghost_name)
@@ -397,16 +386,13 @@ impl<'a, T: Drop, S: SegStore, I, O, E> SegView<'a, T, S, I, O, E> {
         requires live { self.old.last.stopped ≡ None }
         requires can { CanChange (sees (S.meaning self.old.store.now) self.old.segment) a.0 change }
         ensures ok { OnOk result (SegDoes self.old.segment self.old.side (Edit a.0 change)
-            (holding (S.meaning self.old.store.now) (S.reserved self.old.store.now) self.old.books.now
-            self.old.progress.now self.old.last) tt
-            (holding (S.meaning self.new.store.now) (S.reserved self.new.store.now) self.new.books.now
-            self.new.progress.now self.new.last)) }
+            (hold_of S.meaning S.reserved self.old.store.now self.old.books.now self.old.progress.now self.old.last) tt
+            (hold_of S.meaning S.reserved self.new.store.now self.new.books.now self.new.progress.now self.new.last)) }
         ensures word { IfErr result (λ e. e ≡ stop_of self.new.last.halt) }
         ensures err { OnErr result (SegRefuses self.old.segment self.old.side (Edit a.0 change)
-            (holding (S.meaning self.old.store.now) (S.reserved self.old.store.now) self.old.books.now
-            self.old.progress.now self.old.last) self.new.last.halt
-            (holding (S.meaning self.new.store.now) (S.reserved self.new.store.now) self.new.books.now
-            self.new.progress.now self.new.last)) }
+            (hold_of S.meaning S.reserved self.old.store.now self.old.books.now self.old.progress.now self.old.last)
+            self.new.last.halt
+            (hold_of S.meaning S.reserved self.new.store.now self.new.books.now self.new.progress.now self.new.last)) }
         ensures stays { (self.new.segment ≡ self.old.segment) × (self.new.side ≡ self.old.side)
             × (self.new.devices ≡ self.old.devices) }
         ensures refs { (self.new.store.ghost_name ≡ self.old.store.ghost_name)
@@ -556,24 +542,22 @@ impl<'a, T: Drop, S: SegStore, I, O, E> SegView<'a, T, S, I, O, E> {
         requires seen { seen ≡ is_noted (sees (S.meaning self.old.store.now) self.old.segment a.0)
             (((S.meaning self.old.store.now).part self.old.segment).looked a.0) }
         ensures ok { OnOk result (SegDoes self.old.segment self.old.side (Read a.0)
-            (holding (S.meaning self.old.store.now) (S.reserved self.old.store.now) self.old.books.now
-            self.old.progress.now self.old.last) (at (sees (S.meaning self.old.store.now) self.old.segment) a.0)
-            (holding (S.meaning self.new.store.now) (S.reserved self.new.store.now) self.new.books.now
-            self.new.progress.now self.new.last)) }
+            (hold_of S.meaning S.reserved self.old.store.now self.old.books.now self.old.progress.now self.old.last)
+            (at (sees (S.meaning self.old.store.now) self.old.segment) a.0)
+            (hold_of S.meaning S.reserved self.new.store.now self.new.books.now self.new.progress.now self.new.last)) }
         ensures same { OnOk result (sees (S.meaning self.new.store.now) self.new.segment ≡ sees
             (S.meaning self.old.store.now) self.old.segment) }
         ensures quiet { Seen a.0 self.old.segment
-            (holding (S.meaning self.old.store.now) (S.reserved self.old.store.now) self.old.books.now
-            self.old.progress.now self.old.last) → self.new ≡ self.old }
+            (hold_of S.meaning S.reserved self.old.store.now self.old.books.now self.old.progress.now self.old.last)
+            → self.new ≡ self.old }
         ensures word { IfErr result (λ e. e ≡ stop_of self.new.last.halt) }
         ensures err { OnErr result (SegRefuses self.old.segment self.old.side (Read a.0)
-            (holding (S.meaning self.old.store.now) (S.reserved self.old.store.now) self.old.books.now
-            self.old.progress.now self.old.last) self.new.last.halt
-            (holding (S.meaning self.new.store.now) (S.reserved self.new.store.now) self.new.books.now
-            self.new.progress.now self.new.last)) }
+            (hold_of S.meaning S.reserved self.old.store.now self.old.books.now self.old.progress.now self.old.last)
+            self.new.last.halt
+            (hold_of S.meaning S.reserved self.new.store.now self.new.books.now self.new.progress.now self.new.last)) }
         ensures unsure { IfErr result (λ e. Seen a.0 self.old.segment
-            (holding (S.meaning self.old.store.now) (S.reserved self.old.store.now) self.old.books.now
-            self.old.progress.now self.old.last) → ⊥) }
+            (hold_of S.meaning S.reserved self.old.store.now self.old.books.now self.old.progress.now self.old.last)
+            → ⊥) }
         ensures stays { (self.new.segment ≡ self.old.segment) × (self.new.side ≡ self.old.side)
             × (self.new.devices ≡ self.old.devices) }
         ensures refs { (self.new.store.ghost_name ≡ self.old.store.ghost_name)

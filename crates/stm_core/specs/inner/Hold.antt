@@ -202,6 +202,10 @@ halt_of NoMemoryLeft = OutOfMemory
 abbrev pub holding : {S : Type 0} → Meaning → ℕ → Books S → Progress S → LastStop → Hold S
 holding m r b p o = record { meaning = m; reserved = r; books = b; progress = p; last = o }
 
+-- what a view holds, of its store, books and progress, and what it gave last
+abbrev pub hold_of : {S T : Type 0} → (S → Meaning) → (S → ℕ) → S → Books T → Progress T → LastStop → Hold T
+hold_of meaning reserved s b p o = holding (meaning s) (reserved s) b p o
+
 -- the segment holds the record, and sees what it saw
 pub record Holds {S : Type 0} (k : ℕ) (me : Side) (a : ℕ) (d e : Hold S) : Type 0 where
   pub shown : sees e.meaning k ≡ sees d.meaning k
@@ -229,9 +233,9 @@ pub record Fails {S : Type 0} (k : ℕ) (me : Side) (a : ℕ) (d : Hold S) (s : 
 
 -- A call that is to hold the record a: the segment holds it, or the call failed for the Halt that the view gave last,
 -- which its answer says in a word.
-abbrev pub HoldsOrFails : {S A : Type 0} → ℕ → Side → ℕ → Hold S → Result A Stop → Hold S → Type 0
-HoldsOrFails k me a d (Ok u) e = Holds k me a d e
-HoldsOrFails k me a d (Err s) e = (s ≡ stop_of e.last.halt) × Fails k me a d e.last.halt e
+abbrev pub HoldsOrFails : {S A : Type 0} → ℕ → Side → ℕ → Result A Stop → Hold S → Hold S → Type 0
+HoldsOrFails k me a (Ok u) d e = Holds k me a d e
+HoldsOrFails k me a (Err s) d e = (s ≡ stop_of e.last.halt) × Fails k me a d e.last.halt e
 
 -- why a store refuses a call that may want so many words
 abbrev pub FaultWhy : (ℕ → Type 0) → ℕ → ℕ → StoreFault → Type 0

@@ -5,9 +5,9 @@ use Rattle.stm_core.proofs.segment.SegView.look_held.Goals as goal
 
 pub returns-clause-held : goal.returns-clause-held
 returns-clause-held g c =
-    held_by_cases c.args.self.now.segment c.args.self.now.side c.args.a.0
+    held_by_cases c.args.self.now.segment c.args.self.now.side c.args.a.0 c.look.result
     (holding (g.S.SegStore.meaning c.args.self.now.store.now) (g.S.SegStore.reserved c.args.self.now.store.now)
-    c.args.self.now.books.now c.args.self.now.progress.now c.args.self.now.last) c.look.result
+    c.args.self.now.books.now c.args.self.now.progress.now c.args.self.now.last)
     (holding (g.S.SegStore.meaning c.look.new.self.store.now) (g.S.SegStore.reserved c.look.new.self.store.now)
     c.look.new.self.books.now c.look.new.self.progress.now c.look.new.self.last)
     (on_ok_two c.look.result (λ h e. holds_looked c.args.self.now.side c.args.a.0 c.args.self.now.segment

@@ -31,29 +31,24 @@ advance_out-result-requires-clause-short g c =
     (going_now c.requires.good.sane (core_limits g.S.SegStore.meaning c.args.self.now) c.args.k refl c.args.most
     c.requires.may).short c.in-Runs.work c.in-Runs.ensures.hand
 
-pub advance_out-result-requires-clause-fit : goal.advance_out-result-requires-clause-fit
-advance_out-result-requires-clause-fit g c =
-    taken c.args.k (g.S.SegStore.meaning c.args.self.now.store) c.args.self.now.books c.take.new.self c.in-Runs.work
-    c.requires.good.whole c.in-Runs.ensures.hand
-    (record { rest = c.take.ensures.rest; hands = c.take.ensures.hands })
-
-pub advance_out-result-requires-clause-idle : goal.advance_out-result-requires-clause-idle
-advance_out-result-requires-clause-idle g c =
-    set_here c.args.k (g.S.SegStore.meaning c.args.self.now.store) c.args.self.now.books c.take.new.self Idle
-    (record { rest = c.take.ensures.rest; hands = c.take.ensures.hands })
-    (slice_get_within c.args.self.now.books.hands.items c.args.k (Runs c.in-Runs.work) c.in-Runs.ensures.hand)
-
-pub advance_out-result-requires-clause-count : goal.advance_out-result-requires-clause-count
-advance_out-result-requires-clause-count g c =
-    subst (λ (z : Books g.row.C-State.Denot). CountsSteps c.args.self.now.spent z.history.entries)
-    (sym c.take.ensures.rest) c.requires.good.count
-
-pub advance_out-result-requires-clause-sane : goal.advance_out-result-requires-clause-sane
-advance_out-result-requires-clause-sane g c =
-    sane_out (g.C.Client.prog c.args.self.now.client.now) c.args.self.now.length c.args.k _ _
-    (g.S.SegStore.meaning c.args.self.now.store) c.args.self.now.books c.take.new.self c.in-Runs.work
-    c.in-Runs.ensures.hand (record { rest = c.take.ensures.rest; hands = c.take.ensures.hands })
-    (g.C.Client.sound c.args.self.now.client.now) c.requires.good.sane
+pub advance_out-result-requires-clause-out : goal.advance_out-result-requires-clause-out
+advance_out-result-requires-clause-out g c =
+    let x = c.args.self.now in
+    let m = g.S.SegStore.meaning x.store in
+    let u = c.take.new.self in
+    let work = c.in-Runs.work in
+    let h = c.requires.good in
+    record {
+      fit = taken c.args.k m x.books u work h.whole c.in-Runs.ensures.hand
+          (record { rest = c.take.ensures.rest; hands = c.take.ensures.hands });
+      store = c.known.ensures.store;
+      idle = set_here c.args.k m x.books u Idle (record { rest = c.take.ensures.rest; hands = c.take.ensures.hands })
+          (slice_get_within x.books.hands.items c.args.k (Runs work) c.in-Runs.ensures.hand);
+      count = subst (λ (z : Books g.row.C-State.Denot). CountsSteps x.spent z.history.entries)
+          (sym c.take.ensures.rest) h.count;
+      sane = sane_out (g.C.Client.prog x.client.now) x.length c.args.k _ _ m x.books u work c.in-Runs.ensures.hand
+          (record { rest = c.take.ensures.rest; hands = c.take.ensures.hands }) (g.C.Client.sound x.client.now) h.sane;
+    }
 
 pub returns-in-Doomed : goal.returns-in-Doomed
 returns-in-Doomed g c =
@@ -106,7 +101,7 @@ returns-in-Runs g c =
     let first = first_devices g.I.Source.state g.O.Sink.state g.E.Sink.state x in
     let d = core_devices g.I.Source.state g.O.Sink.state g.E.Sink.state x in
     let d1 = core_devices g.I.Source.state g.O.Sink.state g.E.Sink.state y in
-    let e = c.advance_out-result.ensures in
+    let e = c.advance_out-result.ensures.gone in
     let result = c.advance_out-result.result in
     let h = c.requires.good in
     let led : LeadsBetween (StandsFor p x.length first d m x.books) (StandsFor p x.length first d1 m1 y.books)
@@ -115,7 +110,8 @@ returns-in-Runs g c =
     (λ o o1. Advanced p x.length c.args.k m.segments c.args.most r1 l o result o1)) e.shape.1
     (running_led p x.length c.args.k first d m x.books c.take.new.self c.in-Runs.work c.in-Runs.ensures.hand
     (record { rest = c.take.ensures.rest; hands = c.take.ensures.hands }) c.args.most r1 m1.limit d1 m1 y.books
-    result h.whole.hands e.advanced) in
+    result h.whole.hands
+    c.advance_out-result.ensures.advanced) in
     let rises : Rises x.books.cause y.books.cause d d1 =
     subst (λ (z : Books g.row.C-State.Denot). Rises z.cause y.books.cause d d1) c.take.ensures.rest e.rises in
     let kept : Kept g.I.Source.state g.O.Sink.state g.E.Sink.state g.C.Client.prog g.C.Client.sound

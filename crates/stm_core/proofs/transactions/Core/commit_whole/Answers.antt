@@ -13,13 +13,6 @@ publish-requires-clause-thread g c =
     (g.S.SegStore.meaning c.doom_readers.new.self.store) c.args.self.now.books c.doom_readers.new.self.books
     c.args.work (c.doom_readers.ensures.core blank) c.requires.thread
 
-pub publish-requires-clause-count : goal.publish-requires-clause-count
-publish-requires-clause-count g c =
-    count_still blank c.args.k (g.S.SegStore.meaning c.args.self.now.store)
-    (g.S.SegStore.meaning c.doom_readers.new.self.store) c.args.self.now.books c.doom_readers.new.self.books
-    c.args.work (c.doom_readers.ensures.core blank) _ _ (ap (λ s. s.spent) c.doom_readers.ensures.rest)
-    c.requires.count
-
 pub returns-then-work-eq0-clause-core : goal.returns-then-work-eq0-clause-core
 returns-then-work-eq0-clause-core g c = λ w.
     let m = g.S.SegStore.meaning c.args.self.now.store in
@@ -43,3 +36,10 @@ returns-else-work-eq0-clause-core g c = λ w.
           (core_with w c.args.k m1 c.doom_readers.new.self.books c.args.work)) c.doom_readers.ensures.part ∙
           ap (published c.args.k tx) (c.doom_readers.ensures.core w)),
     )
+
+pub publish-requires-clause-count : goal.publish-requires-clause-count
+publish-requires-clause-count g c =
+    count_still blank c.args.k (g.S.SegStore.meaning c.args.self.now.store)
+    (g.S.SegStore.meaning c.doom_readers.new.self.store) c.args.self.now.books c.doom_readers.new.self.books
+    c.args.work (c.doom_readers.ensures.core blank) _ _ (ap (λ s. s.spent) c.doom_readers.ensures.rest)
+    c.requires.count

@@ -1,4 +1,4 @@
-use Rattle.std.proofs.Common.{refl, sym, ◌∙◌, ap, subst}
+use Rattle.std.proofs.Common.{refl, sym, ◌∙◌, ap, subst, arith}
 use Rattle.stm_core.specs.Counted.{FaultRose}
 use Rattle.stm_core.specs.Books.{with_own}
 use Rattle.stm_core.specs.Begun.{CountsSteps}
@@ -10,6 +10,18 @@ use Rattle.stm_core.specs.inner.Rising.{RisesOut}
 use Rattle.stm_core.specs.inner.Settled.{KeepsOrRose, Rises}
 use Rattle.stm_core.proofs.TakenSteps.{sane_paused, thread_out, history_paused, cause_paused, settled_now}
 use Rattle.stm_core.proofs.transactions.Core.take_steps.Goals as goal
+
+pub run_out-done-requires-clause-fit : goal.run_out-done-requires-clause-fit
+run_out-done-requires-clause-fit g c = c.requires.out.fit
+
+pub run_out-done-requires-clause-store : goal.run_out-done-requires-clause-store
+run_out-done-requires-clause-store g c = c.requires.out.store
+
+pub run_out-done-requires-clause-idle : goal.run_out-done-requires-clause-idle
+run_out-done-requires-clause-idle g c = c.requires.out.idle
+
+pub run_out-done-requires-clause-sane : goal.run_out-done-requires-clause-sane
+run_out-done-requires-clause-sane g c = c.requires.out.sane
 
 pub settle-requires-clause-thread : goal.settle-requires-clause-thread
 settle-requires-clause-thread g c =
@@ -25,17 +37,17 @@ settle-requires-clause-thread g c =
 pub settle-requires-clause-count : goal.settle-requires-clause-count
 settle-requires-clause-count g c =
     let x = c.args.self.now in
-    let s = c.requires.sane in
+    let s = c.requires.out.sane in
     let q = c.run_out-done.ensures.paused s.out s.err s.sane.worlds
     (core_with s.sane.worlds c.args.k (g.S.SegStore.meaning x.store) x.books c.args.work) s.shown refl in
     let e = history_paused _ _ _ _ _ _ _ q.gone in
-    ap (λ z. z.spent) c.run_out-done.ensures.rest ∙ subst (λ l. CountsSteps x.spent l) (sym e) c.requires.count
+    ap (λ z. z.spent) c.run_out-done.ensures.rest ∙ subst (λ l. CountsSteps x.spent l) (sym e) c.requires.out.count
 
 pub settle-requires-clause-why : goal.settle-requires-clause-why
 settle-requires-clause-why g c =
     let x = c.args.self.now in
     let y = c.run_out-done.new.self in
-    let s = c.requires.sane in
+    let s = c.requires.out.sane in
     let q = c.run_out-done.ensures.paused s.out s.err s.sane.worlds
     (core_with s.sane.worlds c.args.k (g.S.SegStore.meaning x.store) x.books c.args.work) s.shown refl in
     let v = with_own q.own s.sane.worlds in (
@@ -44,27 +56,6 @@ settle-requires-clause-why g c =
           (g.S.SegStore.reserved y.store) y.books c.run_out-done.new.work)
           (sym (λ i. g.C.Client.prog (c.run_out-done.ensures.rest i).client.now)) q.why,
     )
-
-pub returns-clause-rises : goal.returns-clause-rises
-returns-clause-rises g c =
-    let x = c.args.self.now in
-    let y = c.run_out-done.new.self in
-    let z = c.settle.new.self in
-    let d = device_state g.I.Source.state g.O.Sink.state g.E.Sink.state x.devices in
-    let d1 = device_state g.I.Source.state g.O.Sink.state g.E.Sink.state y.devices in
-    let s = c.requires.sane in
-    let q = c.run_out-done.ensures.paused s.out s.err s.sane.worlds
-    (core_with s.sane.worlds c.args.k (g.S.SegStore.meaning x.store) x.books c.args.work) s.shown refl in
-    let grow = c.run_out-done.ensures.devices in
-    let same = cause_paused _ _ _ _ _ _ _ q.gone in
-    let rises : Rises x.books.cause z.books.cause d d1 =
-    record {
-      counts = grow.counts;
-      rose =
-          subst (λ o. KeepsOrRose o z.books.cause d d1) same (c.settle.ensures.rose d d1 grow.rose);
-    } in
-    subst (Rises x.books.cause z.books.cause d)
-    (sym (λ i. device_state g.I.Source.state g.O.Sink.state g.E.Sink.state (c.settle.ensures.rest i).devices)) rises
 
 pub returns-clause-taken : goal.returns-clause-taken
 returns-clause-taken g c = λ t e w o at.
@@ -86,18 +77,41 @@ returns-clause-taken g c = λ t e w o at.
     c.settle.ensures.tried
     (c.settle.ensures.counted c.args.most r.count) c.requires.short r.steps (c.settle.ensures.settled t e)
 
-pub returns-clause-peaks : goal.returns-clause-peaks
-returns-clause-peaks g c = λ t e w shown.
+pub returns-clause-gone : goal.returns-clause-gone
+returns-clause-gone g c =
     let x = c.args.self.now in
+    let y = c.run_out-done.new.self in
+    let z = c.settle.new.self in
     let m = g.S.SegStore.meaning x.store in
-    subst (λ z. IfTold (g.S.SegStore.peaks x.store) z
-    (RisesOut (g.C.Client.prog x.client.now) c.args.length c.args.k m (core_with w c.args.k m x.books c.args.work)))
-    (sym c.settle.ensures.peaks) (c.run_out-done.ensures.peaks t e w shown)
-
-pub returns-clause-fault : goal.returns-clause-fault
-returns-clause-fault g c =
-    let d = device_state g.I.Source.state g.O.Sink.state g.E.Sink.state c.args.self.now.devices in
-    let d1 = device_state g.I.Source.state g.O.Sink.state g.E.Sink.state c.run_out-done.new.self.devices in
-    subst (FaultRose c.settle.result d)
-    (sym (λ i. device_state g.I.Source.state g.O.Sink.state g.E.Sink.state (c.settle.ensures.rest i).devices))
-    (c.settle.ensures.fault d d1 c.run_out-done.ensures.devices.rose)
+    let d = device_state g.I.Source.state g.O.Sink.state g.E.Sink.state x.devices in
+    let d1 = device_state g.I.Source.state g.O.Sink.state g.E.Sink.state y.devices in
+    let r = c.run_out-done.ensures in
+    let e = c.settle.ensures in
+    let s = c.requires.out.sane in
+    let q = r.paused s.out s.err s.sane.worlds (core_with s.sane.worlds c.args.k m x.books c.args.work) s.shown refl in
+    let same = cause_paused _ _ _ _ _ _ _ q.gone in
+    let rises : Rises x.books.cause z.books.cause d d1 = record {
+      counts = r.devices.counts;
+      rose = subst (λ o. KeepsOrRose o z.books.cause d d1) same (e.rose d d1 r.devices.rose);
+    } in
+    record {
+      rest = e.rest ∙ (λ i. record (r.rest i) { store = z.store; books = z.books; spent = z.spent }) ∙
+          (λ i. record x {
+            store = z.store;
+            books = z.books;
+            devices = (sym e.rest i).devices;
+            spent = z.spent;
+          });
+      shape = (e.shape.0 ∙ r.shape.0, e.shape.1 ∙ r.shape.1);
+      reserved = (let a = r.reserved in let b = e.reserved in omega (arith, a, b));
+      peaks = λ t e1 w shown. subst (λ v. IfTold (g.S.SegStore.peaks x.store) v
+          (RisesOut (g.C.Client.prog x.client.now) c.args.length c.args.k m
+          (core_with w c.args.k m x.books c.args.work))) (sym e.peaks) (r.peaks t e1 w shown);
+      whole = e.whole;
+      count = e.count;
+      rises = subst (Rises x.books.cause z.books.cause d)
+          (sym (λ i. device_state g.I.Source.state g.O.Sink.state g.E.Sink.state (e.rest i).devices)) rises;
+      fault = subst (FaultRose c.settle.result d)
+          (sym (λ i. device_state g.I.Source.state g.O.Sink.state g.E.Sink.state (e.rest i).devices))
+          (e.fault d d1 r.devices.rose);
+    }
