@@ -69,6 +69,7 @@ use Rattle.obj_builtins.specs.Best.{sequence_fault, is_better, better, better_ro
 use Rattle.obj_builtins.specs.Sums.{held, added, summed, sum_value, sum_items, sum_alone, sum_row}
 use Rattle.obj_builtins.specs.Functions.{function_row}
 use Rattle.obj_builtins.specs.HoldsLaws.{FunctionsHold}
+use Rattle.obj_builtins.proofs.EachFunction.{Each, each_function}
 use Rattle.obj_builtins.proofs.FormLooks.{IsForm, form_looks, answer_holds}
 use Rattle.obj_builtins.proofs.LengthLooks.{length_told}
 use Rattle.obj_builtins.proofs.KindLooks.{isinstance_tells}
