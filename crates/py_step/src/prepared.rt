@@ -7,8 +7,8 @@ use py_instrs::{Site, init_number};
 use py_verify::Verified;
 use std::marker::Model;
 
-/// A program that passed the test. The number of the string `__init__` among its roots was looked up when it was made, so
-/// that the call of a class doesn't go through them.
+/// A program that passed the test. The number of the string `__init__` among its roots was looked up when it was made,
+/// so that the call of a class doesn't go through them.
 #[derive(Drop)]
 pub struct Prepared {
     program: Verified,
