@@ -5,23 +5,23 @@ use Rattle.py_step.proofs.step.go_by_row.Goals as goal
 
 pub next_of-requires-clause-safe : goal.next_of-requires-clause-safe
 next_of-requires-clause-safe g c = part_safe g.V.View.sense c.args.p.now c.args.s.now (innermost c.args.s.now.frames)
-    (drop 1 c.args.s.now.frames) c.args.i _ (pops_of _ _ _ _ _ c.program.ensures c.pops-n.ensures) _ c.requires.safe
+    (drop 1 c.args.s.now.frames) c.args.i _ (pops_of _ _ _ _ _ c.program-program.ensures c.pops-n.ensures) _ c.requires.safe
 
 pub returns-in_err-next : goal.returns-in_err-next
 returns-in_err-next g c = part_moved g.V.View.sense c.args.p.now c.args.s.now (innermost c.args.s.now.frames)
-    (drop 1 c.args.s.now.frames) c.args.i _ (pops_of _ _ _ _ _ c.program.ensures c.pops-n.ensures) _ _ _ _
+    (drop 1 c.args.s.now.frames) c.args.i _ (pops_of _ _ _ _ _ c.program-program.ensures c.pops-n.ensures) _ _ _ _
     c.in_err-next.ensures c.from_residual.ensures.1
 
 pub returns-in_err-outcome : goal.returns-in_err-outcome
 returns-in_err-outcome g c =
     settle_moved g.V.View.sense c.args.p.now c.args.s.now (innermost c.args.s.now.frames) (drop 1 c.args.s.now.frames)
-    c.args.i _ (pops_of _ _ _ _ _ c.program.ensures c.pops-n.ensures) _ _ _ _ _ c.in_ok-next.ensures
+    c.args.i _ (pops_of _ _ _ _ _ c.program-program.ensures c.pops-n.ensures) _ _ _ _ _ c.in_ok-next.ensures
     c.in_err-outcome.ensures.err c.from_residual-in_err-outcome.ensures.1
 
 pub returns : goal.returns
 returns g c =
     settled_so g.V.View.sense c.args.p.now c.args.s.now (innermost c.args.s.now.frames) (drop 1 c.args.s.now.frames)
-    c.args.i _ (pops_of _ _ _ _ _ c.program.ensures c.pops-n.ensures) _ _ _
+    c.args.i _ (pops_of _ _ _ _ _ c.program-program.ensures c.pops-n.ensures) _ _ _
     (c.in_ok-outcome.outcome, c.settle.new.self) c.in_ok-next.ensures
     (settled_is g.V.View.sense c.args.p.now c.args.s.now _ _ c.in_ok-outcome.outcome c.settle.new.self c.requires.some
-    (settles_of _ _ _ _ _ _ _ c.program.ensures c.in_ok-outcome.ensures.ok))
+    (settles_of _ _ _ _ _ _ _ c.program-program.ensures c.in_ok-outcome.ensures.ok))
