@@ -19,7 +19,8 @@ go_by_row-requires-clause-operator g c = operator_here c.args.p.now c.args.s.now
 pub go_by_row-requires-clause-safe : goal.go_by_row-requires-clause-safe
 go_by_row-requires-clause-safe g c =
     safe_as g.V.View.sense _ _ _ (at_is c.args.p.now c.args.s.now (Some c.in-Some-instr_at.i) c.requires.lives
-    (sym c.in_default.ensures) (at_of _ _ (innermost c.args.s.now.frames) _ c.program.ensures c.in-Some-instr_at.ensures)) c.requires.safe
+    (sym c.in_default.ensures)
+    (at_of _ _ (innermost c.args.s.now.frames) _ c.program.ensures c.in-Some-instr_at.ensures)) c.requires.safe
 
 pub returns-in-Some-instr_at : goal.returns-in-Some-instr_at
 returns-in-Some-instr_at g c =
