@@ -5,7 +5,8 @@ use Rattle.py_step.proofs.step.go_by_row.Goals as goal
 
 pub next_of-requires-clause-safe : goal.next_of-requires-clause-safe
 next_of-requires-clause-safe g c = part_safe g.V.View.sense c.args.p.now c.args.s.now (innermost c.args.s.now.frames)
-    (drop 1 c.args.s.now.frames) c.args.i _ (pops_of _ _ _ _ _ c.program-program.ensures c.pops-n.ensures) _ c.requires.safe
+    (drop 1 c.args.s.now.frames) c.args.i _ (pops_of _ _ _ _ _ c.program-program.ensures c.pops-n.ensures) _
+    c.requires.safe
 
 pub returns-in_err-next : goal.returns-in_err-next
 returns-in_err-next g c = part_moved g.V.View.sense c.args.p.now c.args.s.now (innermost c.args.s.now.frames)
