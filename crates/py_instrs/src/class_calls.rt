@@ -7,7 +7,6 @@ ghost use Rattle.py_frames.specs.Raising as raising;
 
 use crate::binding::bound_first;
 use crate::instances::new_instance;
-use crate::programs::text_number;
 use crate::raising::{enter, give, place_in, raise_row, raise_text};
 use crate::site::{Given, Site};
 use obj_class::{inherited, is_sub};
@@ -87,7 +86,7 @@ fn init_row<S, V: View<S>>(v: &mut V, s: &Site<'_>, c: Addr) -> Result<Option<Va
     requires safe { Safe V.sense.partial (class_calls.init_row {S = S} s.now c.0) (V.sense.heap v.old) }
     ensures { Meets V.sense (class_calls.init_row s.now c.0) v.old v.new result }
 {
-    init_by(v, s.roots, c, text_number(s.program, b"__init__")?)
+    init_by(v, s.roots, c, s.init_number()?)
 }
 
 /// Whether a class is an exception class.

@@ -1,6 +1,8 @@
 //! What a call gives, and where it happens.
-ghost use Rattle.std.specs.Prelude.{◌≡◌, ◌++◌, length, OnOk, IfOk};
+ghost use Rattle.std.specs.Prelude.{◌≡◌, ◌++◌, length, codes, OnOk, IfOk, IfSome};
+ghost use Rattle.py_frames.specs.GlobalRows as globals;
 
+use crate::programs::text_number;
 use py_code::Program;
 use py_data::{Addr, NoMemory, Value, Values};
 use std::alloc::AllocError;
@@ -77,19 +79,46 @@ impl<'b, 'a> Passed<'b, 'a> {
     }
 }
 
-/// Where a call happens: the program and its roots, the Thread record of the thread, and how many frames it has.
+/// The number of the string `__init__` among the roots of a program, looked up once for all calls: within it None where
+/// the program doesn't name it. None where the number wouldn't fit, which no list in memory is long enough for.
+pub fn init_number(p: &Program) -> Option<Option<usize>>
+    ensures { IfSome result (λ o. o ≡ globals.text_number p.now (codes "__init__")) }
+{
+    text_number(p, b"__init__").ok()
+}
+
+/// Where a call happens: the program and its roots, the Thread record of the thread, and how many frames it has. Beside
+/// them stands the number of the string `__init__` among the roots, if it was looked up (`init_number`).
 #[derive(Drop)]
 pub struct Site<'a> {
     pub program: &'a Program,
+    pub init: Option<Option<usize>>,
     pub roots: Addr,
     pub thread: Option<Addr>,
     pub depth: usize,
 }
 
 impl<'a> Model for Site<'a> {
+    ghost use Rattle.std.specs.Prelude.{◌≡◌, codes, IfSome};
     ghost use Rattle.py_frames.specs.ClassCalls as class_calls;
+    ghost use Rattle.py_frames.specs.GlobalRows as globals;
 
     ghost Value = { class_calls.Site };
 
     ghost view = { λ s. record { program = s.program.now; roots = s.roots.0; thread = s.thread; depth = s.depth } };
+
+    ghost invariant = { λ s. IfSome s.init (λ o. o ≡ globals.text_number s.program.now (codes "__init__")) };
+}
+
+impl<'a> Site<'a> {
+    /// The number of the string `__init__` among the roots, None where the program doesn't name it. It is looked up
+    /// only where it wasn't before.
+    pub fn init_number(&self) -> Result<Option<usize>, NoMemory>
+        ensures { IfOk result (λ o. o ≡ globals.text_number self.now.program (codes "__init__")) }
+    {
+        match self.init {
+            Some(number) => Ok(number),
+            None => text_number(self.program, b"__init__"),
+        }
+    }
 }

@@ -25,6 +25,18 @@ use Rattle.py_step.specs.inner.Directly.{IsAtOnce}
 use Rattle.py_step.specs.inner.Moves.{Moves, dying_step, dying_words}
 use Rattle.py_step.specs.inner.Operators.{HasOperator, IsOperable}
 
+-- ---- what is said of a program that is this one
+
+pub at_of : (p q : Program) (f : Frame) (o : Option Instr) → q ≡ p → o ≡ instr_at q f → instr_at p f ≡ o
+at_of p q f o e at = sym (at ∙ ap (λ r. instr_at r f) e)
+
+pub pops_of : (p q : Program) (f : Frame) (i : Instr) (n : ℕ) → q ≡ p → n ≡ pops q f i → n ≡ pops p f i
+pops_of p q f i n e at = at ∙ ap (λ r. pops r f i) e
+
+pub settles_of : (p q : Program) (s : State) (n : ℕ) (next : Next) (o : Outcome) (t : State) → q ≡ p →
+    Settles (settled_in q s n next s.frames) o t → Settles (settled_in p s n next s.frames) o t
+settles_of p q s n next o t e at = subst (λ r. Settles (settled_in r s n next s.frames) o t) e at
+
 -- ---- a thread that lives has a frame
 
 has_frame : (d : Option Dying) (fs : List Frame) → life_by d fs ≡ Lives → 0 < length fs

@@ -53,10 +53,6 @@ module _ {X : Type 0} (u : Sense State X) (b : Bracket State X) (is : IsBracket 
       subst (λ h. Safe u.partial (step_row p s) h) (sym (is.opened v v1 opens).0)
       (safe_shown u.partial (step_row p s) (u.heap v) st.heap st.shown safe)
 
-  pub opened_safe_as : (q : Program) → q ≡ p → StandsIn (Sound p) u.partial (u.heap v) s → life_of s ≡ Lives →
-      Safe u.partial (step_row q s) (u.heap v1)
-  opened_safe_as q e st l = subst (λ r. Safe u.partial (step_row r s) (u.heap v1)) (sym e) (opened_safe st l)
-
   pub stepped : (w : X) (t : State) (o : Outcome) → Moves u (step_row p s) v1 s w t (Ok o) →
       Stepped u b (step_row p s) v o t w
   stepped w t o m = (v1, opens, m)

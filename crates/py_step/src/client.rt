@@ -6,6 +6,7 @@ ghost use Rattle.py_frames.specs.Laws.{prog_of};
 ghost use Rattle.py_frames.specs.Sound.{Sound, first_state, module_frame};
 
 use crate::blocked::would_wait;
+use crate::prepared::Prepared;
 use crate::step::{step_at_once, step_row};
 use lock_run::{Client, Life, Outcome};
 use py_code::Program;
@@ -45,7 +46,7 @@ fn first_state(alloc: Global, p: &Program) -> Result<ThreadState, NoMemory>
 /// each step of a thread is an instruction, but for the last one of a thread that dies, which writes why.
 #[derive(Drop)]
 pub struct PyClient {
-    program: Verified,
+    program: Prepared,
 }
 
 impl PyClient {
@@ -55,7 +56,9 @@ impl PyClient {
         ensures program { program_in result ≡ program }
         ensures first { IsSoundFirst (prog_of program) (Sound program) }
     {
-        PyClient { program }
+        PyClient {
+            program: Prepared::new(program),
+        }
     }
 }
 
@@ -95,7 +98,7 @@ impl Client for PyClient {
         v: &mut V,
     ) -> Result<Outcome, Stop> {
         v.open_step();
-        match step_row(alloc, v, self.program.program(), s) {
+        match step_row(alloc, v, &self.program, s) {
             Ok(outcome) => Ok(outcome),
             Err(stop) => {
                 v.undo_step();

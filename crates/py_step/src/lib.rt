@@ -8,8 +8,10 @@ mod guard;
 mod instrs;
 mod operands;
 mod place;
+mod prepared;
 mod step;
 
 pub use blocked::would_wait;
 pub use client::PyClient;
+pub use prepared::Prepared;
 pub use step::step_row;

@@ -5,6 +5,7 @@ ghost use Rattle.py_frames.specs.State as state;
 ghost use Rattle.py_frames.specs.Steps.{site_of};
 ghost use Rattle.py_states.specs.Innermost.{innermost};
 
+use crate::prepared::Prepared;
 use py_code::{Code, Instr, Program};
 use py_data::Addr;
 use py_instrs::Site;
@@ -21,16 +22,11 @@ pub fn place_of(a: Option<Addr>) -> Addr
 }
 
 /// Where a thread stands that has a frame.
-pub fn site<'a>(p: &'a Program, s: &ThreadState) -> Site<'a>
+pub fn site<'a>(p: &'a Prepared, s: &ThreadState) -> Site<'a>
     requires { 0 < length s.now.frames }
     ensures { result ≡ site_of p.now s.now (drop 1 s.now.frames) }
 {
-    Site {
-        program: p,
-        roots: place_of(s.roots()),
-        thread: s.thread(),
-        depth: s.depth(),
-    }
+    p.site(place_of(s.roots()), s.thread(), s.depth())
 }
 
 /// The instruction of a code at a place.

@@ -14,6 +14,7 @@ use crate::at_once::do_at_once;
 use crate::guard::guarded_row;
 use crate::operands::pops;
 use crate::place::{instr_at, place_of, site};
+use crate::prepared::Prepared;
 use lock_run::Outcome;
 use py_code::{Instr, Program};
 use py_data::{Stop, View};
@@ -27,7 +28,7 @@ use std::alloc::Global;
 fn next_of<V: View<ThreadState>>(
     alloc: Global,
     v: &mut V,
-    p: &Program,
+    p: &Prepared,
     s: &ThreadState,
     n: usize,
     i: Instr,
@@ -50,7 +51,7 @@ fn next_of<V: View<ThreadState>>(
 fn go_by_row<V: View<ThreadState>>(
     alloc: Global,
     v: &mut V,
-    p: &Program,
+    p: &Prepared,
     s: &mut ThreadState,
     i: Instr,
 ) -> Result<Outcome, Stop>
@@ -62,9 +63,10 @@ fn go_by_row<V: View<ThreadState>>(
     ensures { Moves V.sense (steps.step_at p.now s.old (innermost s.old.frames) (drop 1 s.old.frames) (Some i)) v.old
         s.old v.new s.new result }
 {
-    let n = pops(p, s, i);
+    let program = p.program();
+    let n = pops(program, s, i);
     let next = next_of(alloc, v, p, s, n, i)?;
-    let outcome = s.settle(p, n, next)?;
+    let outcome = s.settle(program, n, next)?;
     Ok(outcome)
 }
 
@@ -128,7 +130,7 @@ fn die<V: View<ThreadState>>(
 pub fn step_row<V: View<ThreadState>>(
     alloc: Global,
     v: &mut V,
-    p: &Program,
+    p: &Prepared,
     s: &mut ThreadState,
 ) -> Result<Outcome, Stop>
     requires lives { state.life_of s.old ≡ Lives }
@@ -140,7 +142,7 @@ pub fn step_row<V: View<ThreadState>>(
     if let Some(d) = s.dying() {
         return die(alloc, v, s, d);
     }
-    match instr_at(p, s) {
+    match instr_at(p.program(), s) {
         Some(i) => go_by_row(alloc, v, p, s, i),
         None => Ok(end(s)),
     }
