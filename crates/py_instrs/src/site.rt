@@ -92,7 +92,7 @@ pub fn init_number(p: &Program) -> Option<Option<usize>>
 #[derive(Drop)]
 pub struct Site<'a> {
     pub program: &'a Program,
-    pub init: Option<Option<usize>>,
+    pub init: &'a Option<Option<usize>>,
     pub roots: Addr,
     pub thread: Option<Addr>,
     pub depth: usize,
@@ -107,7 +107,7 @@ impl<'a> Model for Site<'a> {
 
     ghost view = { λ s. record { program = s.program.now; roots = s.roots.0; thread = s.thread; depth = s.depth } };
 
-    ghost invariant = { λ s. IfSome s.init (λ o. o ≡ globals.text_number s.program.now (codes "__init__")) };
+    ghost invariant = { λ s. IfSome s.init.now (λ o. o ≡ globals.text_number s.program.now (codes "__init__")) };
 }
 
 impl<'a> Site<'a> {
@@ -116,7 +116,7 @@ impl<'a> Site<'a> {
     pub fn init_number(&self) -> Result<Option<usize>, NoMemory>
         ensures { IfOk result (λ o. o ≡ globals.text_number self.now.program (codes "__init__")) }
     {
-        match self.init {
+        match *self.init {
             Some(number) => Ok(number),
             None => text_number(self.program, b"__init__"),
         }

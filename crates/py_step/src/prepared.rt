@@ -50,7 +50,7 @@ impl Prepared {
     {
         Site {
             program: self.program.program(),
-            init: self.init,
+            init: &self.init,
             roots,
             thread,
             depth,
