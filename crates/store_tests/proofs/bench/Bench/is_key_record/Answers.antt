@@ -1,7 +1,7 @@
 use Rattle.std.proofs.Common.{sym, ◌∙◌}
 use Rattle.seg_store.specs.Meaning.{sees}
 use Rattle.store_tests.proofs.There.{key_there}
-use Rattle.store_tests.proofs.bench.keys.Bench.is_key_record.Goals as goal
+use Rattle.store_tests.proofs.bench.Bench.is_key_record.Goals as goal
 
 pub returns : goal.returns
 returns g c = λ t. key_there (sees (g.S.SegStore.meaning c.args.self.now.store) c.args.k) c.args.a.0 _

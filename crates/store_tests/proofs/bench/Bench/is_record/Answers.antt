@@ -3,7 +3,7 @@ use Rattle.py_data.specs.Heap.{Heap}
 use Rattle.py_data.specs.Shape.{KindIn}
 use Rattle.seg_store.specs.Meaning.{sees}
 use Rattle.store_tests.proofs.There.{kind_there}
-use Rattle.store_tests.proofs.bench.shapes.Bench.is_record.Goals as goal
+use Rattle.store_tests.proofs.bench.Bench.is_record.Goals as goal
 
 pub returns : goal.returns
 returns g c t = subst (λ x. KindIn (h c.args.a.0) (λ q. q ≡ x)) (c.same_kind.ensures t)
