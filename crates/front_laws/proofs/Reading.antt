@@ -1,6 +1,5 @@
 -- What a reading at the front of a text is to be: spelled by the front that it takes, reaching as far as any front that
--- is spelled, and
--- refused as a bad character only where a number is none.
+-- is spelled, and refused as a bad character only where a number is none.
 use Rattle.std.proofs.Common.{◌≡◌, ℕ, ◌^◌, ◌≤◌, Bool, true, false, ◌&&◌, ◌||◌, if◌then◌else◌, List, ◌++◌, length, drop, Ok, Err, refl}
 use Rattle.py_base.specs.declared.refusal.Refusal.{Refusal}
 use Rattle.py_base.specs.declared.refusal.Refusal.TheVariants.{BadCharacter, NumberWide}

@@ -1,6 +1,5 @@
 -- The token at the front of a text: it is spelled by the front that is taken, it reaches as far as any front that is
--- spelled, and a bad
--- character comes where none is, or where a number is none.
+-- spelled, and a bad character comes where none is, or where a number is none.
 use Rattle.std.proofs.Common.{◌≡◌, ℕ, ◌+◌, ◌-◌, ◌≤◌, ◌==◌, nat_le, Bool, true, false, ◌&&◌, ◌||◌, not, if◌then◌else◌, List, [], ◌∷◌, ◌++◌, length, map, take, drop, Option, Some, None, Ok, Err, ◌⊎◌, inl, inr, refl, sym, ap, ◌∙◌, subst, append_assoc, arith}
 use Rattle.std.specs.Char.{digit_value}
 use Rattle.std.proofs.lemmas.Bool.{and_parts, not-true, false_from_ne_true, eqb-true, eq-eqb, leb-true, ltb-true, or_cases}

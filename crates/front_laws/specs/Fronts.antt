@@ -21,8 +21,7 @@ abbrev pub HasNoFront : List Character → Type 0
 HasNoFront cs = (front rest : List Character) (kind : TokenKind) → cs ≡ front ++ rest → Spells front kind → ⊥
 
 -- A text begins as a number that is none: a prefix without a digit, or digits that begin with 0 and have an 8 or a 9,
--- where no front is a
--- float.
+-- where no front is a float.
 pub data BadNumber : List Character → Type 0 where
   no_digit : (base : Base) (letter : ℕ) → BaseLetter base letter → (c x : Character) (cs : List Character) →
       c.byte ≡ 48 → Is (Letter letter) x →

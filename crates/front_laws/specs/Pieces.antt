@@ -54,8 +54,8 @@ pub data Goes (q : Quoting) : List Character → List Character → Type 0 where
       Goes q (c ∷ d ∷ body) (c ∷ d ∷ cs)
 
 -- A string that isn't unicode begins on the first line. It isn't raw, and its body goes on up to an `\x` without two
--- hexadecimal digits,
--- whose backslash is on the other line; or it has a body in which an escape has no meaning, and both lines are one.
+-- hexadecimal digits, whose backslash is on the other line; or it has a body in which an escape has no meaning, and
+-- both lines are one.
 pub data HasBadEscape (first line : ℕ) (cs : List Character) : Type 0 where
   no_digits : (q : Quoting) (p : Prefix) (inner before : List Character) (slash x : Character) (after : List Character)
       → Opens q p inner cs →
@@ -86,8 +86,7 @@ pub record IsNoSpace (c : Character) (cs : List Character) : Type 0 where
   pub joint : c.byte ≡ 92 → next_is (Byte 10) cs ≡ false
 
 -- Why no piece stands at the front. It is a bad character where no front spells a token; and where one does, the text
--- begins as a number
--- that is none.
+-- begins as a number that is none.
 abbrev pub Cause : Character → List Character → Refusal → Type 0
 Cause c cs (BadCharacter l) =
     (l ≡ c.line) × ((front rest : List Character) (kind : TokenKind) → c ∷ cs ≡ front ++ rest → Spells front kind →

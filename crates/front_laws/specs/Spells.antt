@@ -1,7 +1,6 @@
 -- Which characters spell which token: one case for each form. States `docs/LANGUAGE.md`, "Names and keywords",
--- "Numbers", "Strings" and
--- "Operators". Of py_tokens it takes the classes of characters, the tables of keywords and operators, and what an
--- escape stands for.
+-- "Numbers", "Strings" and "Operators". Of py_tokens it takes the classes of characters, the tables of keywords and
+-- operators, and what an escape stands for.
 use Rattle.std.specs.Prelude.{◌≡◌, ◌≢◌, ℕ, ◌^◌, ◌<◌, pos, true, false, List, [], ◌∷◌, ◌++◌, map, Some, ◌⊎◌}
 use Rattle.std.specs.Str.Parse.{digits_value}
 use Rattle.py_text.specs.Escape.{unescaped}
@@ -90,8 +89,7 @@ pub data Quotes : Quoting → List Character → Type 0 where
       Quotes (record { mark = m; triple = true }) (c ∷ d ∷ e ∷ [])
 
 -- A body, and the body with its closing quotes. The first closing quotes end it; a backslash keeps the character after
--- it from ending it,
--- and a line end stands in triple quotes or behind a backslash alone.
+-- it from ending it, and a line end stands in triple quotes or behind a backslash alone.
 pub data Closed (q : Quoting) : List Character → List Character → Type 0 where
   end : {qs : List Character} → Quotes q qs → Closed q [] qs
   more : (c : Character) {body cs : List Character} → c.byte ≢ 92 → quotes q (c ∷ cs) ≡ false →

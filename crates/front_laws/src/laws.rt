@@ -1,4 +1,5 @@
-//! The laws, as contracts: a call of such a function does nothing, and gives its caller's proof the facts of its clauses.
+//! The laws, as contracts: a call of such a function does nothing, and gives its caller's proof the facts of its
+//! clauses.
 ghost use Rattle.std.specs.Prelude.{◌≡◌, ℕ, ◌<◌, ◌≤◌, Bool, true, ◌⊎◌, List, [], ◌∷◌, length, Option, Some, None, Ok, Err, All};
 ghost use Rattle.py_base.specs.declared.refusal.Refusal.{Refusal};
 ghost use Rattle.py_base.specs.declared.refusal.Refusal.TheVariants.{BadCharacter, BadDedent};
@@ -23,9 +24,10 @@ ghost use Rattle.front_laws.specs.Trees.{IsTree};
 
 use py_parser::{canonical_law, grammar_law};
 
-/// The tokens of a text, but for those of its layout, are its longest pieces from the front on, up to its end. A text without tokens
-/// has a bad dedent, or its pieces end at a place for a cause of that refusal. Where no front of what follows spells a token, and
-/// neither a space nor a string begins, this is a bad character. Characters spell one token at most.
+/// The tokens of a text, but for those of its layout, are its longest pieces from the front on, up to its end. A text
+/// without tokens has a bad dedent, or its pieces end at a place for a cause of that refusal. Where no front of what
+/// follows spells a token, and neither a space nor a string begins, this is a bad character. Characters spell one token
+/// at most.
 pub fn spelling_law()
     ensures tokens { (text : List ℕ) (ts : List Token) → tokens_of_text text ≡ Ok ts →
         Pieces (length text) (text_characters text) (in_line ts) None }
@@ -36,8 +38,9 @@ pub fn spelling_law()
     ensures one { (cs : List Character) (a b : TokenKind) → Spells cs a → Spells cs b → a ≡ b }
 {}
 
-/// The attribute by which the parser tells a target is the relation of `specs/Targets`: a name, an attribute, a subscript, or a group, a
-/// list or a tuple of targets (`[]` is one, and `()` none); the truth value says whether slices count.
+/// The attribute by which the parser tells a target is the relation of `specs/Targets`: a name, an attribute, a
+/// subscript, or a group, a list or a tuple of targets (`[]` is one, and `()` none); the truth value says whether
+/// slices count.
 pub fn target_law()
     ensures some { (slices : Bool) (a : Expr) → is_target slices (form a) ≡ true → IsTarget slices a }
     ensures only { (slices : Bool) (a : Expr) → IsTarget slices a → is_target slices (form a) ≡ true }

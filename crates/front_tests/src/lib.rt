@@ -1,5 +1,5 @@
-//! The front end below scopes and code, tried by hand: literals, tokens, trees, listings, and programs that pass and that don't.
-//! It has tests alone, so the crates that it tries are proved once and wait for no test.
+//! The front end below scopes and code, tried by hand: literals, tokens, trees, listings, and programs that pass and
+//! that don't. It has tests alone, so the crates that it tries are proved once and wait for no test.
 #![tactic(auto)]
 
 #[cfg(test)]

@@ -143,7 +143,8 @@ fn all_give(alloc: Global, times: u32, rows: &str, want: &str) -> Result<u32, No
     Ok(count)
 }
 
-/// A byte of a row, where `$` is a line end, and `<` and `>` are 95 brackets: a target between them has a height of at most 3.
+/// A byte of a row, where `$` is a line end, and `<` and `>` are 95 brackets: a target between them has a height of at
+/// most 3.
 fn push_high(text: &mut Vec<u8>, b: u8) -> Result<(), NoMemory> {
     match b {
         b'<' => push_often(text, "(", 95),

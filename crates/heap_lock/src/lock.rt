@@ -37,8 +37,8 @@ impl<T: Job> HeapLock<T> {
     /// Makes a lock round the value, with its first seat, which has all the parts, holds nothing and
     /// has seen the value.
     ///
-    /// `parts` is a count, from 1 to 255: at most so many seats can there be at once. The parts
-    /// themselves are the numbers 0 to `parts - 1`.
+    /// `parts` is a count, from 1 to 255: at most so many seats can there be at once. The parts themselves are the
+    /// numbers 0 to `parts - 1`.
     ///
     /// At want of memory, the only error, the value comes back. No other call takes memory.
     pub fn new(alloc: Global, value: T, parts: u8) -> Result<(HeapLock<T>, Seat<T>), (NoMemory, T)>
@@ -106,8 +106,8 @@ impl<T: Job> HeapLock<T> {
     /// It tries until it finds the lock free, and lets other threads run in between. In any schedule
     /// the value is good and of the seat's job, and has grown from each that the seat has seen: from
     /// the one that it gave last or, before it gave one, from the one that the lock was made with.
-    /// What others gave since isn't told. That the call returns is not claimed, and neither is any
-    /// order among threads that wait. It takes no memory.
+    /// What others gave since isn't told. That the call returns is not claimed, and neither is any order among threads
+    /// that wait. It takes no memory.
     pub fn take<Rt: Wait>(&self, rt: &Rt, seat: &mut Seat<T>) -> T
         requires lock { seat.old.lock ≡ self.now.id }
         requires free { seat.old.holds ≡ false }

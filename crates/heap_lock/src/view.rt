@@ -3,8 +3,8 @@
 use std::collections::LinkedList;
 use std::snapshot::Snapshot;
 
-/// A seat's parts with the highest first, whether it holds the value, the job of the value, the
-/// values that the seat has seen, and the value as it took it, while it holds one.
+/// A seat's parts with the highest first, whether it holds the value, the job of the value, the values that the seat
+/// has seen, and the value as it took it, while it holds one.
 /// A seat that was joined to another has no parts and no job, and has seen nothing.
 pub struct View<T, J> {
     pub parts: LinkedList<u8>,

@@ -17,8 +17,7 @@ abbrev pub Standing : {S : Type 0} → (List S → Type 0) → S → Type 0
 Standing sound s = (ss : List _) × (t : ℕ) × (slice_get ss t ≡ Some s) × sound ss
 
 -- A view shows g, and some heap of which it shows so much has the state standing over it: over a view of all of a heap
--- it is
--- g, over a view of a part any heap with the part's records.
+-- it is g, over a view of a part any heap with the part's records.
 pub record StandsIn {S : Type 0} (sound : Heap → List S → Type 0) (partial : Bool) (g : Heap) (s : S) : Type 0 where
   pub heap : Heap
   pub shown : ShownOf partial g heap

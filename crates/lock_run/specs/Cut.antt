@@ -33,8 +33,7 @@ pub record Broken : Type 0 where
   pub turns : ℕ
 
 -- The step that was cut is the next one of its thread after a front of the history. The thread has no later turn, and
--- the later
--- turns left the world. Of its row a beginning was done, and its next call was cut.
+-- the later turns left the world. Of its row a beginning was done, and its next call was cut.
 pub record Broke {S : Type 0} (p : Prog S) (first : Machine S) (history : List Turn) (w told : World)
     (b : Broken) : Type 0 where
   pub front : List Turn

@@ -1,6 +1,5 @@
 -- The one-lock machine: one heap, one list of threads, one world, and the turns that it does. States `docs/HEAP.md`,
--- "The
--- one-lock machine" and "Turns and runs".
+-- "The one-lock machine" and "Turns and runs".
 use Rattle.std.specs.Prelude.{◌≡◌, ◌≢◌, ℕ, ◌≤◌, zero, suc, List, [], ◌∷◌, ◌++◌, Some, None, slice_get, slice_set}
 use Rattle.py_data.specs.Heap.{Heap}
 use Rattle.py_data.specs.Collection.{places}

@@ -59,8 +59,7 @@ pub record SameSteps {S : Type 0} (p : Prog S) (n : ℕ) (q : S) (h1 : Heap) (v1
   pub world_used : t.used ≡ true → t1.world ≡ t.world
 
 -- The frame law of steps: over another heap that has each fixed record of the first, agrees with it on what the steps
--- looked
--- at and has none of their names, they are the same steps; and over another world, if they don't use the world.
+-- looked at and has none of their names, they are the same steps; and over another world, if they don't use the world.
 abbrev pub StepsLaw : Type 0 → Type 0
 StepsLaw S =
     (p : Prog S) (n : ℕ) (q r : S) (h h1 : Heap) (v v1 : World) (t : Sight S) → Steps p n q (opened S h v) r t →

@@ -1,6 +1,5 @@
 -- What a turn of a LockRun does: a turn of the machine, or why it was cut and what stays. States `docs/HEAP.md`, "Turns
--- and
--- runs".
+-- and runs".
 use Rattle.std.specs.Prelude.{◌≡◌, ◌≢◌, ◌⊎◌, ℕ, ◌≤◌, ◌<◌, List, [], ◌∷◌, ◌++◌, Option, Some, None, slice_get, slice_set, false, suc}
 use Rattle.py_data.specs.declared.stop.Out.TheVariants.{Output, ErrorOutput}
 use Rattle.py_data.specs.Row.{Row, Do, Call, Reply, Make, Put, Take}
@@ -42,8 +41,7 @@ pub record Stands {S : Type 0} (o e : Option (List ℕ)) (d : PlainState S) (ts 
   pub mid : m.world.mid ≡ d.mid
 
 -- A turn that was done: whichever machine the LockRun showed before, the machine can do the turn, and the LockRun shows
--- what
--- it leads to.
+-- what it leads to.
 abbrev pub TurnDone : {S : Type 0} → Prog S → Turn → LockState S → LockState S → Type 0
 TurnDone {S} p t a b = (o e : Option (List ℕ)) (m : Machine S) → Stands o e a.view a.threads m →
     (m1 : Machine S) × Stands o e b.view b.threads m1 × DoesTurn p m t m1
@@ -53,8 +51,7 @@ abbrev pub Calls : {S A : Type 0} → Row S A → Call S → Type 0
 Calls {S = S} {A = A} q c = (k : Reply c → Row S A) × (q ≡ Do c k)
 
 -- After `done` steps the thread had the state `after` and had left `sight`; so much stays. The next step was cut: its
--- changes are
--- taken back, and what it told the devices stays.
+-- changes are taken back, and what it told the devices stays.
 pub record CutIn {S : Type 0} (p : Prog S) (t done : ℕ) (o e : Option (List ℕ)) (m : Machine S) (d1 : PlainState S)
     (ts1 : List S) : Type 0 where
   pub before : S
@@ -101,8 +98,7 @@ abbrev pub Begins : List ℕ → List ℕ → Type 0
 Begins xs names = (rest : List ℕ) × (xs ++ rest ≡ names)
 
 -- What is told of steps that were cut: how much stays, with the names that it gave, and why. Where names are planned,
--- those
--- that were given are the first of them.
+-- those that were given are the first of them.
 abbrev pub CutTold : {S : Type 0} (p : Prog S) (t done : ℕ) (names : List ℕ) (o e : Option (List ℕ)) (m : Machine S)
     (d d1 : PlainState S) (ts1 : List S) → TurnWhy → Type 0
 CutTold p t done names o e m d d1 ts1 why =
@@ -157,8 +153,7 @@ ReachCut {S} p t steps done why a b =
     → CutTold p t done names o e m d0 b.view b.threads why)
 
 -- A turn that was cut: there is no such thread; or all steps were done and names are left; or the next step wasn't
--- done. The
--- steps that stay gave the first of the turn's names.
+-- done. The steps that stay gave the first of the turn's names.
 abbrev pub TurnCut : {S : Type 0} → Prog S → Turn → ℕ → TurnWhy → LockState S → LockState S → Type 0
 TurnCut {S} p t done why a b =
     (o e : Option (List ℕ)) (m : Machine S) → Stands o e a.view a.threads m →

@@ -20,8 +20,7 @@ abbrev pub IsDictAt : Heap → ℕ → Type 0
 IsDictAt h d = KindIn (h d) (λ k. k ≡ Dict)
 
 -- with values that stand in the heap each operation may be begun, leaves a heap in order, and answers what stands in it
--- or an
--- exception
+-- or an exception
 pub record DictHolds {S : Type 0} (rules : Rules) (stands : Heap → S → Type 0) : Type 0 where
   pub get : (h : Heap) (d : ℕ) (key : Value) → IsOrdered rules h → IsDictAt h d → IsItem h key →
       Holds rules stands (IsGot IfItem) (get_row d key) h

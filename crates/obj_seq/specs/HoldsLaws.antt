@@ -38,8 +38,7 @@ abbrev pub AreItems : List Value → Heap → Type 0
 AreItems vs h = Every (IsItem h) vs × (length vs ≤ LENGTH_LIMIT)
 
 -- with values that stand in the heap each operation may be begun, leaves a heap in order, and answers what stands in it
--- or an
--- exception
+-- or an exception
 pub record SeqHolds {S : Type 0} (rules : Rules) (stands : Heap → S → Type 0) : Type 0 where
   pub item : (h : Heap) (a : ℕ) (i : ℤ) → IsOrdered rules h → IsSequenceAt h a →
       Holds rules stands IsAnswer (item_row a i) h

@@ -45,8 +45,7 @@ gap_row a k [] = Do (Edit a (change.Cut k)) (λ _. Ret tt)
 gap_row a k (x ∷ xs) = Do (Edit a (change.Set k x)) (λ _. gap_row a (k + 1) xs)
 
 -- x comes into place k, what stood there into the next place, and so on; the last of the values ys from place k on goes
--- to
--- the end
+-- to the end
 unfoldable pub shift_row : {S : Type 0} → ℕ → ℕ → Value → List Value → Row S (Unit {0})
 shift_row a k x [] = Do (Edit a (change.Push x)) (λ _. Ret tt)
 shift_row a k x (y ∷ ys) = Do (Edit a (change.Set k x)) (λ _. shift_row a (k + 1) y ys)

@@ -112,8 +112,7 @@ dict_frame there w v a keys same e s x d =
 -- ---- a record that gets other words
 
 -- where the keys of what is there are keys, its fixed records stay, and the words stand for r at a, the index of that
--- is
--- right
+-- is right
 abbrev pub Renews : (ℕ → Bool) → Words → Words → ℕ → Rec → Type 0
 Renews there w v a r = HasKeys (heap_of there w) → SameFixed there w v → decode v a ≡ r → kind_by v a ≡ Dict
     → IsIndexed v a

@@ -38,8 +38,7 @@ use Rattle.paged_store.proofs.EndLemmas.{sum_put, class_both, at_both, now_by, b
 -- ---- what a write leaves of a desk
 
 -- Segment k's words are w now; it may have written the places of t besides, and has taken the extents of xs. Its words
--- as
--- its open step began with them are what they were.
+-- as its open step began with them are what they were.
 pub record Turns (k : ℕ) (w : Words) (t : ℕ → Bool) (xs : List Extent) (old new : Desk) : Type 0 where
   pub shared : new.table.shared ≡ old.table.shared
   pub others : (j : ℕ) → j ≢ k → new.table.word j ≡ old.table.word j

@@ -27,8 +27,7 @@ abbrev pub new_meaning : ℕ → ℕ → Meaning
 new_meaning segments limit = record { image = no_records; part = λ k. no_part; segments = segments; limit = limit }
 
 -- So many words can't be had: they are those of an extent of a class of which one at most was given back. A call wants
--- two
--- of a class at most.
+-- two of a class at most.
 pub record Wanting (t : Table) (n : ℕ) : Type 0 where
   pub class : ℕ
   pub low : 1 ≤ class

@@ -1,6 +1,5 @@
 -- A set of names that code keeps as other values: what it holds is a list of names, and the list is searched through
--- these
--- values.
+-- these values.
 use Rattle.std.specs.Prelude.{position, nat_lt, not, ◌+◌, Some, None}
 use Rattle.std.specs.List.{position_or_len}
 use Rattle.std.proofs.Common.{Option, length, sym, ◌≡◌, ℕ, Bool, true, false, cond, List, [], ◌∷◌, ◌++◌, map, refl, subst, ap, ◌∙◌, ◌||◌}

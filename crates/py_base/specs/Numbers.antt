@@ -1,8 +1,6 @@
 -- What has a number by a rule of the language: operators, builtins and the classes that every program has. Of each
--- there is
--- one list of names, and the number of a name is its place in the list, counted from 0. States `docs/LANGUAGE.md`,
--- "Numbers
--- and names".
+-- there is one list of names, and the number of a name is its place in the list, counted from 0. States
+-- `docs/LANGUAGE.md`, "Numbers and names".
 use Rattle.std.specs.Prelude.{Bool, true, false, ℕ, ◌+◌, codes, List, [], ◌∷◌, length, Option, Some, None, if◌then◌else◌, unwrap_or}
 use Rattle.std.specs.Str.{bytes_eq}
 
@@ -50,8 +48,7 @@ class_names = codes "object" ∷ codes "BaseException" ∷ codes "Exception" ∷
 -- ---- builtins
 
 -- Functions, types, modules and methods. The names `True`, `False`, `__name__`, `object` and those of the exceptions
--- are
--- builtins too, and have other values.
+-- are builtins too, and have other values.
 abbrev pub builtin_names : List (List ℕ)
 builtin_names = codes "len" ∷ codes "range" ∷ codes "xrange" ∷ codes "str" ∷ codes "repr" ∷ codes "int" ∷ codes "bool"
     ∷ codes "list" ∷ codes "tuple" ∷ codes "dict" ∷ codes "isinstance" ∷ codes "ord" ∷ codes "chr" ∷ codes "abs" ∷

@@ -1,5 +1,5 @@
-//! The numbers of the builtins that are values of their own: functions, types, the modules and methods. The names `True`,
-//! `False`, `__name__`, `object` and those of the exceptions are builtins too, and have other values.
+//! The numbers of the builtins that are values of their own: functions, types, the modules and methods. The names
+//! `True`, `False`, `__name__`, `object` and those of the exceptions are builtins too, and have other values.
 
 /// `len`.
 pub const LEN: u8 = 0;

@@ -185,7 +185,8 @@ impl<T: Drop> Log<T> {
         self.items.reserve(n)
     }
 
-    /// Adds an element at the end. Where room was made for it, there is memory. At want of memory the log stays as it is.
+    /// Adds an element at the end. Where room was made for it, there is memory. At want of memory the log stays as it
+    /// is.
     pub fn push(&mut self, x: T) -> Result<(), NoMemory>
         ensures ok { OnOk result (self.new.entries ≡ self.old.entries ++ x ∷ []) }
         ensures err { OnErr result (self.new.entries ≡ self.old.entries) }

@@ -1,5 +1,5 @@
-//! The numbers of the classes that every program has: `object` and the exception classes, in the order in which SETUP makes
-//! them.
+//! The numbers of the classes that every program has: `object` and the exception classes, in the order in which SETUP
+//! makes them.
 
 /// `object`.
 pub const OBJECT: u8 = 0;

@@ -1,5 +1,5 @@
-//! What the front end and the heap share: lists and texts, refusals, kinds of records, and what has a number by a rule of the
-//! language, with its names: operators, builtins and exception classes.
+//! What the front end and the heap share: lists and texts, refusals, kinds of records, and what has a number by a rule
+//! of the language, with its names: operators, builtins and exception classes.
 #![tactic(auto)]
 
 pub mod builtin;

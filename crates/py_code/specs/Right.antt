@@ -107,8 +107,7 @@ HasCellAt names None = Unit {0}
 HasCellAt names (Some r) = HasCell names r.kind r.bytes
 
 -- What holds of an instruction in code n, whether it is reached or not: only a class body uses its dictionary, and what
--- it
--- loads by a name is the name of a cell too; a function is none of a class body; and nothing leads back to the first
+-- it loads by a name is the name of a cell too; a function is none of a class body; and nothing leads back to the first
 -- code.
 abbrev pub Belongs : List Code → List Root → ℕ → Instr → Type 0
 Belongs cs rs n (LoadName r) = IsTrue (is_body cs n) × HasCellAt (names_of rs) (slice_get rs r)

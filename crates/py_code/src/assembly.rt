@@ -184,9 +184,9 @@ fn push_codes(alloc: Global, text: &mut Bytes, p: &Program) -> Result<(), NoMemo
     Ok(())
 }
 
-/// The program as a text: the roots, and each code with its slots, its keyword lists and its instructions. What a number
-/// names stands in parentheses behind it, and a place that is jumped to has a label, as `L1`. The language's document
-/// says it whole, under "Listing". Any program has a listing: a number that names nothing is written alone.
+/// The program as a text: the roots, and each code with its slots, its keyword lists and its instructions. What a
+/// number names stands in parentheses behind it, and a place that is jumped to has a label, as `L1`. The language's
+/// document says it whole, under "Listing". Any program has a listing: a number that names nothing is written alone.
 #[tactic(auto, unfolding(crate::specs::Listing::listing_of))]
 pub fn listing(alloc: Global, p: &Program) -> Result<Bytes, NoMemory>
     ensures { IfOk result (λ t. t ≡ listing_of p.now) }

@@ -12,8 +12,8 @@ pub enum Constant {
     Root(u32),
 }
 
-/// An instruction. Places are those of its code, from 0. In the effects, `a b -> c` shows the top of the stack at the right.
-/// Roots, slots, codes and keyword lists are told by their numbers, from 0.
+/// An instruction. Places are those of its code, from 0. In the effects, `a b -> c` shows the top of the stack at the
+/// right. Roots, slots, codes and keyword lists are told by their numbers, from 0.
 #[derive(Clone, Copy, Debug, Drop, PartialEq, Eq)]
 pub enum Instr {
     /// The module's first step: makes the program's roots.

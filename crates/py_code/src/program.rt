@@ -50,8 +50,8 @@ pub struct Code {
     pub keys: KeyLists,
 }
 
-/// A program: the module's code, then those of each `def` and `class` in the order of the text, and the roots. These are
-/// the cell of the count of threads, the classes, the strings and the cells of the global names.
+/// A program: the module's code, then those of each `def` and `class` in the order of the text, and the roots. These
+/// are the cell of the count of threads, the classes, the strings and the cells of the global names.
 #[derive(Debug, Drop)]
 pub struct Program {
     pub codes: Codes,

@@ -345,8 +345,7 @@ module _ (locals : List (List (List ℕ))) (ss : List Stmt) where
         }
 
 -- What a module compiles to is right, where it is legal, `None` is no name that a body binds, parameters are among the
--- names
--- that their function binds, and nothing is too large.
+-- names that their function binds, and nothing is too large.
 pub program_right : (locals : List (List (List ℕ))) (m : Module) → legal_all m.body false false ≡ true →
     ((j : ℕ) (x : List ℕ) → is_none x ≡ true → has x (whole.locals_of locals m.body j) ≡ false) →
     ParamsFit locals 0 (whole.bodies m.body) → whole.too_large_in locals m ≡ None →

@@ -29,8 +29,7 @@ use Rattle.py_compile.proofs.StmtInduct.{OfArm, OfClause, OfHandler, Cases, stmt
 use Rattle.py_compile.proofs.OrdinaryEvents.{Ordinary, AllOrdinary, ordinary_nil, ordinary_cons, ordinary_join, bound_ordinary, only_ordinary, imported_ordinary, declares_ordinary, read_ordinary, target_ordinary, read_all_ordinary, target_all_ordinary, read_some_ordinary, target_some_ordinary, raises_ordinary}
 
 -- Events that begin these bodies, one after another. Those of a `def` stand behind the check of its parameters, and
--- begin with
--- them; other bodies have no parameters.
+-- begin with them; other bodies have no parameters.
 pub data Begin : List Body → List Event → Type 0 where
   NoMore : Begin [] []
   Beside : {ys : List Body} {e : Event} {es : List Event} → Ordinary e → Begin ys es → Begin ys (e ∷ es)
@@ -66,8 +65,8 @@ then_ordinary {ys = ys} {es = es} a b h = subst (λ x. Begin x (es ++ a)) (appen
 -- ---- statements
 
 -- Wherever a legal statement stands (l: inside a loop; c: inside an except clause), and whatever numbers its bodies
--- have, from f
--- on. One that isn't legal may have a `try` with an else and no except clause, whose code leaves the else out.
+-- have, from f on. One that isn't legal may have a `try` with an else and no except clause, whose code leaves the else
+-- out.
 pub record Begins (x : Stmt) : Type 0 where
   pub begun : (f : ℕ) (w : Where) (l c : Bool) → legal x l c ≡ true → Begin ((stated x).inner f) (says x w)
 

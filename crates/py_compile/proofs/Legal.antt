@@ -1,7 +1,6 @@
 -- Modules whose code can be right: targets are targets, comparisons compare, `break` and `continue` stand in loops, a
--- `raise`
--- alone in an except clause, and a `try` without an except clause has no else. Each module of a text that has scopes is
--- so.
+-- `raise` alone in an except clause, and a `try` without an except clause has no else. Each module of a text that has
+-- scopes is so.
 use Rattle.std.specs.Prelude.{◌&&◌, Bool, true, false, List, [], ◌∷◌, Option, Some, None, map}
 use Rattle.py_tree.specs.declared.expr.Expr.{Expr}
 use Rattle.py_tree.specs.declared.stmt.Stmt.{Stmt}

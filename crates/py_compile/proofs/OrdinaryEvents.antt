@@ -1,6 +1,5 @@
 -- The events of names, expressions and the heads of statements are ordinary ones: what begins a body, and takes a
--- parameter, is
--- said by `def` and `class` alone, and `None` is never bound.
+-- parameter, is said by `def` and `class` alone, and `None` is never bound.
 use Rattle.std.proofs.Common.{◌≡◌, ℕ, Bool, true, false, List, [], ◌∷◌, ◌++◌, Option, Some, None, refl, sym, subst}
 use Rattle.std.specs.Prelude.{if◌then◌else◌}
 use Rattle.py_tree.specs.declared.expr.Expr.{Expr}

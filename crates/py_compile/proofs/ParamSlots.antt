@@ -1,6 +1,5 @@
 -- Each body of a legal module that has scopes has at most as many parameters as its code has named slots: the
--- parameters of a
--- `def` differ, and each is a local name of its body.
+-- parameters of a `def` differ, and each is a local name of its body.
 use Rattle.std.proofs.Common.{◌≡◌, ◌||◌, ◌&&◌, not, ℕ, ◌+◌, ◌<◌, ◌≤◌, Bool, true, false, List, [], ◌∷◌, ◌++◌, length, get_or, Option, Some, None, Ok, refl, sym, ap, ◌∙◌, subst, arith, append_assoc, eq-eqb, eqb-true}
 use Rattle.std.specs.Prelude.{if◌then◌else◌}
 use Rattle.std.specs.List.{list_any}

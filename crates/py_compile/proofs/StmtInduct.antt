@@ -1,6 +1,5 @@
 -- Induction over statements: what holds of a kind of statement, if it holds of the statements of its blocks, holds of
--- every
--- statement.
+-- every statement.
 use Rattle.std.proofs.Common.{ℕ, Bool, List, map, Option, Some, None, sym, subst}
 use Rattle.py_tree.specs.declared.expr.Expr.{Expr}
 use Rattle.py_tree.specs.declared.expr.Operator.{Operator}

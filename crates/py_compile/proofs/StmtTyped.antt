@@ -1,6 +1,5 @@
 -- The code of each statement of a legal module whose uses have numbers leads from a shape to itself, and so does that
--- of each
--- body inside it.
+-- of each body inside it.
 use Rattle.std.proofs.Common.{◌≡◌, ◌&&◌, ℕ, suc, ◌+◌, ◌≤◌, List, [], ◌∷◌, ◌++◌, Option, Some, None, Bool, true, false, refl, ap, subst, arith, length, map, length-append}
 use Rattle.std.proofs.lemmas.Bool.{and_parts}
 use Rattle.py_code.specs.Effects.{Limits}

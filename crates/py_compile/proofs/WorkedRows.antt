@@ -1,6 +1,5 @@
 -- Expressions and statements by hand, node by node. The names are those of a function with the locals a and b, in a
--- program
--- with the strings n and s and the globals g and h, whose calls have the keywords k.
+-- program with the strings n and s and the globals g and h, whose calls have the keywords k.
 use Rattle.std.proofs.Common.{◌≡◌, ℕ, List, [], ◌∷◌, Some, None, true, false, refl}
 use Rattle.std.specs.Prelude.{pos, codes}
 use Rattle.py_code.specs.declared.instr.Constant.TheVariants.{None as NoValue, Root, Int as IntValue, Builtin}

@@ -11,8 +11,7 @@ use Rattle.py_compile.specs.declared.home.Home.{Home}
 use Rattle.py_compile.specs.declared.home.Home.TheVariants.{Slot, Cell, Body}
 
 -- What a body knows of names: whether it is that of a class; the names that it binds; of the whole program the strings
--- and
--- the global names among the roots; and the names in each of its keyword lists.
+-- and the global names among the roots; and the names in each of its keyword lists.
 pub record Known : Type 0 where
   pub is_class : Bool
   pub locals : List (List ℕ)

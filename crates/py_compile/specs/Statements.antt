@@ -28,8 +28,7 @@ pub record Body : Type 0 where
   pub block : Known → Piece
 
 -- A statement: how many bodies it holds; its code in a body that knows these names, inside these constructs, where its
--- own
--- bodies are numbered from f on; and its bodies, in the order of the text.
+-- own bodies are numbered from f on; and its bodies, in the order of the text.
 pub record Stated : Type 0 where
   pub bodies : ℕ
   pub code : Known → List Around → ℕ → Piece

@@ -251,8 +251,7 @@ pub data Around : Type 0 where
 
 module _ (ln : ℕ) where
   -- What is done on a way out of these constructs, the innermost first: to the end of the innermost loop (`break`), to
-  -- its
-  -- next turn (`continue`), or out of the body. At a loop, rest is the way on from there.
+  -- its next turn (`continue`), or out of the body. At a loop, rest is the way on from there.
   abbrev pub past_while : Way → Piece → Piece
   past_while Break rest = template ln 0 0 (To 1 Jump E ∷ [])
   past_while Continue rest = template ln 0 0 (To 1 Jump A ∷ [])

@@ -8,9 +8,8 @@ pub record Frame : Type 0 where
   pub labels : List ℕ
   pub slot : ℕ
 
--- A piece of code: how many instructions and hidden slots it has, the line of each instruction,
--- and its instructions inside these constructs (the innermost first), from this place on,
--- with this slot as its first hidden one.
+-- A piece of code: how many instructions and hidden slots it has, the line of each instruction, and its instructions
+-- inside these constructs (the innermost first), from this place on, with this slot as its first hidden one.
 pub record Piece : Type 0 where
   pub size : ℕ
   pub slots : ℕ
@@ -96,8 +95,8 @@ abbrev pub own_slot : ℕ → ℕ → ℕ
 own_slot zero k = 0
 own_slot (suc n) k = k
 
--- The piece that a template stands for, with its own instructions on this line,
--- with own hidden slots (0 or 1; it comes before those of the parts), and with labels 0 to count - 1.
+-- The piece that a template stands for, with its own instructions on this line, with own hidden slots (0 or 1; it comes
+-- before those of the parts), and with labels 0 to count - 1.
 abbrev pub template : ℕ → ℕ → ℕ → List Part → Piece
 template line own count xs = record {
   size = size_of xs;

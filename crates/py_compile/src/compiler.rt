@@ -95,11 +95,12 @@ fn has_long(texts: &NameSet) -> bool
     false
 }
 
-/// The program of a text's tree and its scopes, by the table of templates (`docs/LANGUAGE.md`, "Code of a tree"), ready for
-/// the machine: what is tested of a program before it runs holds of each program that this answers.
+/// The program of a text's tree and its scopes, by the table of templates (`docs/LANGUAGE.md`, "Code of a tree"), ready
+/// for the machine: what is tested of a program before it runs holds of each program that this answers.
 ///
-/// The condition says that the tree is one of some tokens by the grammar, and that the scopes are those that `resolve` answers
-/// for it. Of another tree the program need not be right: a target that is a number, say, has no code that stores it.
+/// The condition says that the tree is one of some tokens by the grammar, and that the scopes are those that `resolve`
+/// answers for it. Of another tree the program need not be right: a target that is a number, say, has no code that
+/// stores it.
 ///
 /// Refused is `TooLarge`: with the line of its `def` or `class` (1 for the module) a body with more than 65,535
 /// instructions, and with line 1 more than 65,535 bodies or roots, or a string of more than 1,048,576 bytes; of several

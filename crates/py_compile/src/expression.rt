@@ -1,7 +1,7 @@
 //! The code of expressions.
 //!
-//! An expression's code is emitted with no recursion: a stack holds the tasks that are left, and each step does one of them
-//! or puts its parts in its place.
+//! An expression's code is emitted with no recursion: a stack holds the tasks that are left, and each step does one of
+//! them or puts its parts in its place.
 
 ghost use Rattle.std.specs.Prelude.{◌≡◌, ◌<◌, ◌+◌, ◌∷◌, ℕ, Err, IfOk, length};
 ghost use Rattle.py_code.specs.declared.instr.Constant.TheVariants.{Int as IntValue};

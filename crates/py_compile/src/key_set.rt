@@ -16,8 +16,8 @@ use std::alloc::Global;
 use std::hash::{Hash, Hasher};
 use std::marker::Model;
 
-/// The keyword arguments of a call, which contracts see as the list of their names. Two are equal where these are the same
-/// names in the same order, whatever the values.
+/// The keyword arguments of a call, which contracts see as the list of their names. Two are equal where these are the
+/// same names in the same order, whatever the values.
 #[derive(Drop)]
 pub struct KeyNames<'a> {
     named: &'a [Named],

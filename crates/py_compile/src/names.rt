@@ -12,8 +12,8 @@ use std::marker::Model;
 /// The root that is the first string: the cell of the count of threads and the classes stand before it.
 const FIRST_TEXT: usize = 21;
 
-/// What a body knows of names: whether it is that of a class, the names that it binds, and of the whole program the strings
-/// and the global names among the roots; and the names in each of its keyword lists.
+/// What a body knows of names: whether it is that of a class, the names that it binds, and of the whole program the
+/// strings and the global names among the roots; and the names in each of its keyword lists.
 #[derive(Drop)]
 pub struct Names<'s, 'a> {
     is_class: bool,

@@ -1,5 +1,5 @@
-//! The plan of a body: what of its statements has code. It is made once, and emitted as often as it takes: a finally body
-//! once more for each way out through it.
+//! The plan of a body: what of its statements has code. It is made once, and emitted as often as it takes: a finally
+//! body once more for each way out through it.
 
 use py_base::Bytes;
 use py_tree::{Arm, Expr, Handler, Imported, Operator, Param};

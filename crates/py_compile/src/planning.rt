@@ -1,5 +1,5 @@
-//! Planning: the statements of a body that have code, with the numbers of their own bodies. It goes once over the text of
-//! the body; what stands in a `def` or a `class` is counted for each round it, of which there are at most 100.
+//! Planning: the statements of a body that have code, with the numbers of their own bodies. It goes once over the text
+//! of the body; what stands in a `def` or a `class` is counted for each round it, of which there are at most 100.
 ghost use Rattle.std.specs.Prelude.{◌≡◌, ◌+◌, List, IfOk, OnOk};
 ghost use Rattle.py_compile.specs.inner.Compounds.{finally_code, for_code, if_code, otherwise, tried_of, while_code};
 ghost use Rattle.py_compile.specs.Names.{Known, home};

@@ -93,7 +93,8 @@ fn pop(e: &mut Emitter, line: u32) -> Result<(), Fault>
     Ok(())
 }
 
-/// What is done on a way out, from the innermost construct on. No resolved tree has a break or a continue outside of a loop.
+/// What is done on a way out, from the innermost construct on. No resolved tree has a break or a continue outside of a
+/// loop.
 #[cycle(statements)]
 fn leave(e: &mut Emitter, names: &Names, line: u32, way: Way, around: &Around) -> Result<(), Fault>
     ensures done { IfOk result (λ _. Emitted e.old e.new (way_out line way (around_of names.now around.now)) (env_of around.now)) }

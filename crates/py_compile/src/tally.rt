@@ -13,8 +13,8 @@ use py_tree::Named;
 use std::alloc::{AllocError, Global};
 use std::marker::Model;
 
-/// What was used so far: the strings, the global names, and by their numbers the keyword lists of the bodies; and the number
-/// of the next body.
+/// What was used so far: the strings, the global names, and by their numbers the keyword lists of the bodies; and the
+/// number of the next body.
 #[derive(Drop)]
 pub struct Tally<'a> {
     pub texts: NameSet<'a>,

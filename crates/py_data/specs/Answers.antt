@@ -18,8 +18,7 @@ IsTold h (Held v) = IsItem h v
 IsTold h _ = Unit {0}
 
 -- an exception that can be made over a heap: it is of a class that every program has, which isn't `object`, and what it
--- is told
--- with is there
+-- is told with is there
 abbrev pub IsFault : Heap → Fault → Type 0
 IsFault h e = (class_number (codes "object") < e.exc) × (e.exc < class_count) × IsTold h e.with
 

@@ -49,8 +49,7 @@ AsksKey true h key r = r.kind ≡ Dict
 AsksKey false h key r = Fits h r key
 
 -- What a view asks of a change besides, so that a dictionary stays one: a set puts a value, not a key, and the key of a
--- new
--- pair isn't there.
+-- new pair isn't there.
 abbrev pub Suits : Bool → Heap → Change → Rec → Type 0
 Suits partial h (Set i x) r = IsValuePlace r.kind i
 Suits partial h (Pair key x) r = AsksKey partial h key r × (find h r.values key ≡ None)

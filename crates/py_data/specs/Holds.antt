@@ -13,8 +13,7 @@ abbrev pub Refits : Rules → Heap → ℕ → (Rec → Rec) → Type 0
 Refits rules h a f = (r : Rec) → h a ≡ Some r → FitsAt rules h a (f r)
 
 -- A call leaves a heap in order: a changed record fits still, a new one fits at each free address, and a state that is
--- started
--- may stand over the heap.
+-- started may stand over the heap.
 abbrev pub Tends : {S : Type 0} → Rules → (Heap → S → Type 0) → Call S → Heap → Type 0
 Tends rules stands (Edit a c) h = Refits rules h a (after c)
 Tends rules stands (Make r) h = (a : ℕ) → h a ≡ None → FitsAt rules h a r

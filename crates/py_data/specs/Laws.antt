@@ -16,8 +16,7 @@ WorldLaw S A =
     → (t.world ≡ v) × Does w (opened S h other) y (record t { world = other })
 
 -- The place at which a row was stopped: its calls up to there were done, and `left` is left of it. There the code found
--- no
--- memory of its own, or the view refused the next call.
+-- no memory of its own, or the view refused the next call.
 pub record StoppedAt {S X A : Type 0} (u : Sense S X) (row : Row S A) (v : X) (e : Stop) (w : X) : Type 0 where
   pub left : Row S A
   pub place : X
@@ -45,8 +44,7 @@ pub record IsTold {S : Type 0} (s : Sight S) : Type 0 where
   pub is : s.world.input ≡ Some bytes
 
 -- The names decide: where the source tells its bytes, two ways to do a row of which both give the first names of one
--- list
--- are the same way.
+-- list are the same way.
 abbrev pub NamesLaw : Type 0 → Type 0 → Type 0
 NamesLaw S A =
     (w : Row S A) (s t t1 : Sight S) (y y1 : A) (rest rest1 : List ℕ) → IsTold s → Does w s y t → Does w s y1 t1 →

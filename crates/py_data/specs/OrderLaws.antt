@@ -38,8 +38,7 @@ module _ {S A : Type 0} (rules : Rules) (stands : Heap → S → Type 0) (p : A 
       Holds rules stands p row h → Safe partial row g
 
   -- over each view of a whole heap: what a row that holds has answered has the property, and the heap is in order and
-  -- extends
-  -- the one before
+  -- extends the one before
   abbrev pub HoldsRun : {X : Type 0} → Sense S X → Type 0
   HoldsRun {X} u =
       u.partial ≡ false → (row : Row S A) (v w : X) (y : A) → Holds rules stands p row (u.heap v) →

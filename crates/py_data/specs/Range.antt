@@ -5,8 +5,7 @@ use Rattle.py_data.specs.declared.value.Value.{Value}
 use Rattle.py_data.specs.declared.value.Value.TheVariants.{Int}
 
 -- how many numbers at this distance from one another, from the first on, stand before the end of a way: one, and one
--- for each
--- whole step in the rest of the way
+-- for each whole step in the rest of the way
 abbrev pub steps : ℤ → ℕ → ℕ
 steps (pos zero) step = 0
 steps (pos (suc way)) step = suc (way / step)

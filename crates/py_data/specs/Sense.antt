@@ -36,15 +36,13 @@ ShownOf true g h = IsPart g h
 ShownOf false g h = g ≡ h
 
 -- What a partial view must know to answer a search: the key and the keys of the dictionary, so that the answer is the
--- same in
--- each heap of which it shows a part.
+-- same in each heap of which it shows a part.
 abbrev pub Knows : Bool → Heap → Value → Rec → Type 0
 Knows true h key r = IsKey h key × ArePairs h r.values
 Knows false h key r = Unit {0}
 
 -- What each call answers over a heap, and what it leaves of it. A partial view makes no record, since it can't tell
--- which
--- addresses are free.
+-- which addresses are free.
 abbrev pub Effect : {S : Type 0} → Bool → (c : Call S) → Heap → Reply c → Heap → Type 0
 Effect p (Read a) h r h1 = (h a ≡ Some r) × (h1 ≡ h)
 Effect p (Find d key) h o h1 = Has h d × (o ≡ find h (at h d).values key) × (h1 ≡ h) × Knows p h key (at h d)

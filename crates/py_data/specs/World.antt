@@ -1,6 +1,5 @@
 -- What is outside of a program: the input that is left, how often it was found to be at its end, what was written to
--- the
--- two outputs, and whether the output is in the middle of a line. States `docs/LANGUAGE.md`, "Print" and "Input".
+-- the two outputs, and whether the output is in the middle of a line. States `docs/LANGUAGE.md`, "Print" and "Input".
 use Rattle.std.specs.Prelude.{◌≡◌, ℕ, ◌+◌, ◌-◌, ◌^◌, ◌≤◌, min, Bool, List, [], ◌∷◌, ◌++◌, length, take, drop, Option, Some, None}
 use Rattle.std.specs.Io.BufRead.{take_through}
 use Rattle.py_data.specs.declared.stop.Out.{Out}

@@ -13,8 +13,7 @@ use Rattle.py_names.specs.Outline.{has, with_name}
 -- ---- bodies
 
 -- Bodies have numbers, from 0, in the order in which they begin. These are the bodies that stand round a place behind
--- an
--- event, the innermost first; n bodies began before the event.
+-- an event, the innermost first; n bodies began before the event.
 abbrev pub inside_after : Event → ℕ → List ℕ → List ℕ
 inside_after (Enter k) n inside = n ∷ inside
 inside_after Leave n inside = drop 1 inside

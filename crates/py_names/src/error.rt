@@ -9,8 +9,8 @@ use thiserror::Error;
 /// Why a module has no scopes.
 #[derive(Clone, Copy, Debug, Drop, Error, PartialEq, Eq)]
 pub enum NameFault {
-    /// The earliest place where a statement or a name may not stand, with the line of the simple statement or the clause
-    /// that it stands in: `Misplaced`, `Doubled` or `Closure`.
+    /// The earliest place where a statement or a name may not stand, with the line of the simple statement or the
+    /// clause that it stands in: `Misplaced`, `Doubled` or `Closure`.
     #[error("a name or a statement is refused")]
     Refused(Refusal),
     /// There was no memory for the scopes.

@@ -1,5 +1,5 @@
-//! The names of a module and their scopes: which names each body binds, and the places where a name or a statement may not
-//! stand.
+//! The names of a module and their scopes: which names each body binds, and the places where a name or a statement may
+//! not stand.
 #![tactic(auto)]
 
 mod check;

@@ -28,15 +28,15 @@ fn outline(alloc: Global, m: &Module) -> Result<Items<Event>, NoMemory>
 
 /// The scopes of the bodies of a module: of the module itself and of each `def` and `class`, in the order of the text.
 ///
-/// A name is local to the function or the class body that binds it, as a target, a parameter or by `for`, `import`, `def`,
-/// `class`, `except` or `del`, unless a `global` there names it. A module's names are global.
+/// A name is local to the function or the class body that binds it, as a target, a parameter or by `for`, `import`,
+/// `def`, `class`, `except` or `del`, unless a `global` there names it. A module's names are global.
 ///
-/// Refused is the earliest of these places, with the line on which the simple statement or the clause that holds it begins,
-/// counted from 1. `Misplaced`: a `return` outside a function, a `break` or `continue` outside a loop, a `continue` in a
-/// finally block inside its loop, a `global` of a parameter, a `raise` alone outside an except clause of its body, and `None`
-/// where it is bound or names a parameter, a keyword or an attribute. `Doubled`: a parameter or a keyword that stands once
-/// more in its list. `Closure`: a name that a body uses, that isn't local or declared global there, and that is local to a
-/// function round it. `OutOfMemory` says that there was no memory for the scopes.
+/// Refused is the earliest of these places, with the line on which the simple statement or the clause that holds it
+/// begins, counted from 1. `Misplaced`: a `return` outside a function, a `break` or `continue` outside a loop, a
+/// `continue` in a finally block inside its loop, a `global` of a parameter, a `raise` alone outside an except clause
+/// of its body, and `None` where it is bound or names a parameter, a keyword or an attribute. `Doubled`: a parameter or
+/// a keyword that stands once more in its list. `Closure`: a name that a body uses, that isn't local or declared global
+/// there, and that is local to a function round it. `OutOfMemory` says that there was no memory for the scopes.
 pub fn resolve(alloc: Global, m: &Module) -> Result<Scopes, NameFault>
     ensures { Resolves m.now result }
 {

@@ -301,8 +301,8 @@ fn aim_by<'a, F: for<'b> Fn(&'b [Token]) -> Result<(Tall<Expr>, &'b [Token]), Pa
     aiming.aimed(tokens)
 }
 
-/// An expression of the level of targets, of a height of at most `budget`, which is a target or becomes one of at most this
-/// height by a further trailer. No loop takes more than so many turns.
+/// An expression of the level of targets, of a height of at most `budget`, which is a target or becomes one of at most
+/// this height by a further trailer. No loop takes more than so many turns.
 pub fn aim<'a>(
     alloc: Global,
     turns: usize,

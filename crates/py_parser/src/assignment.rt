@@ -77,8 +77,8 @@ fn assign<'a>(
     Ok((run_or_assign(line, targets, value), more))
 }
 
-/// After the first expression of a statement that began on this line, where the augmented assignment with this operator comes
-/// next.
+/// After the first expression of a statement that began on this line, where the augmented assignment with this operator
+/// comes next.
 #[tactic(auto, unfolding(crate::specs::inner::Lines::run_at))]
 fn augment<'a>(
     alloc: Global,

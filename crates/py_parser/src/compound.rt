@@ -57,8 +57,8 @@ fn line_within<'a>(
     line(alloc, turns, budget, tokens)
 }
 
-/// Reads compound statements of a height of at most `budget + 1`. Their expressions have a height of at most `budget`, and
-/// `statement` reads the statements of their blocks, of a height of at most `budget - 1`.
+/// Reads compound statements of a height of at most `budget + 1`. Their expressions have a height of at most `budget`,
+/// and `statement` reads the statements of their blocks, of a height of at most `budget - 1`.
 #[derive(Drop)]
 pub struct Compound<F> {
     pub alloc: Global,

@@ -9,7 +9,8 @@ use thiserror::Error;
 /// Why a list of tokens has no tree.
 #[derive(Clone, Copy, Debug, Drop, Error, PartialEq, Eq)]
 pub enum ParseError {
-    /// The first token that continues no module, or that reaches height 101, with its line: `Unexpected`, `LeftOut` or `Deep`.
+    /// The first token that continues no module, or that reaches height 101, with its line: `Unexpected`, `LeftOut` or
+    /// `Deep`.
     #[error("the tokens are refused")]
     Refused(Refusal),
     /// There was no memory for the tree.

@@ -103,8 +103,8 @@ fn grown<'a>(
     )
 }
 
-/// The test that begins with this expression of the level of targets, of a height of at most `budget`; or the expression
-/// alone, which may be higher.
+/// The test that begins with this expression of the level of targets, of a height of at most `budget`; or the
+/// expression alone, which may be higher.
 #[tactic(auto, unfolding(crate::specs::inner::Aiming::risen_at))]
 pub fn risen<'a>(
     alloc: Global,

@@ -1,5 +1,5 @@
-//! The laws of the grammar, as contracts: a call of such a function does nothing, and gives its caller's proof the facts of
-//! its clauses.
+//! The laws of the grammar, as contracts: a call of such a function does nothing, and gives its caller's proof the
+//! facts of its clauses.
 ghost use Rattle.std.specs.Prelude.{◌≡◌, ℕ, ◌<◌, ◌≤◌, List, [], length, Ok, Err, All};
 ghost use Rattle.py_tokens.specs.Layout.{tokens_of_text};
 ghost use Rattle.py_tokens.specs.Stream.{IsStream};
@@ -25,8 +25,8 @@ pub fn grammar_law()
     ensures one { (ts : List Token) (m n : Module) → IsModule m ts → IsModule n ts → m ≡ n }
 {}
 
-/// In the tokens of a text End stands once, as the last, as `parse` asks; so it does in each stream, as which `tokens` of
-/// `py_tokens` says its answer.
+/// In the tokens of a text End stands once, as the last, as `parse` asks; so it does in each stream, as which `tokens`
+/// of `py_tokens` says its answer.
 pub fn ends_law()
     ensures text { (text : List ℕ) (ts : List Token) → tokens_of_text text ≡ Ok ts → EndsOnce ts }
     ensures stream { (size at depth : ℕ) (ts : List Token) → IsStream size at depth ts → EndsOnce ts }

@@ -58,8 +58,8 @@ fn line_more<'a>(
     Ok((found, more))
 }
 
-/// The simple statements of a line, each of a height of at most `budget`, which is above zero, up to and with the line's end. No
-/// loop takes more than so many turns.
+/// The simple statements of a line, each of a height of at most `budget`, which is above zero, up to and with the
+/// line's end. No loop takes more than so many turns.
 #[tactic(auto, unfolding(crate::specs::inner::Lines::line_at))]
 pub fn line<'a>(
     alloc: Global,

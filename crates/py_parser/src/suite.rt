@@ -1,4 +1,5 @@
-//! Statements with their blocks, and modules: the statements of a block have a budget two less than the statement around it.
+//! Statements with their blocks, and modules: the statements of a block have a budget two less than the statement
+//! around it.
 ghost use Rattle.std.specs.Prelude.{◌≡◌, ◌+◌, ◌-◌, ◌<◌, ◌≤◌, [], length};
 ghost use Rattle.py_parser.specs.inner.Lines.{statement_at, statements_at, body_more, module_at};
 ghost use Rattle.py_parser.specs.inner.Outcome.{Gives};
@@ -14,8 +15,8 @@ use py_tree::{Module, Stmt};
 use sqlite_items::Items;
 use std::alloc::Global;
 
-/// A statement, or the simple ones of a line, of a height of at most `budget + 1`. The statements of its block are read by
-/// `statement`.
+/// A statement, or the simple ones of a line, of a height of at most `budget + 1`. The statements of its block are read
+/// by `statement`.
 fn statement_by<
     'a,
     F: for<'b> Fn(&'b [Token]) -> Result<(Items<Stmt>, &'b [Token]), ParseError> + Drop,

@@ -13,8 +13,8 @@ use std::alloc::Global;
 /// The greatest height of a module.
 pub const HEIGHT_LIMIT: usize = 100;
 
-/// A tree, or a list of parts, with its height and what it is as a target. The height of a list is that of its highest part,
-/// and 0 for none.
+/// A tree, or a list of parts, with its height and what it is as a target. The height of a list is that of its highest
+/// part, and 0 for none.
 #[derive(Debug, Drop)]
 pub struct Tall<T> {
     pub tree: T,

@@ -47,8 +47,8 @@ fn follows(place: TargetPlace, tokens: &[Token]) -> bool
     }
 }
 
-/// Refuses what is no target: an expression that was read, with the tokens after it. A slice is left out where these may
-/// follow a target; all else is unexpected.
+/// Refuses what is no target: an expression that was read, with the tokens after it. A slice is left out where these
+/// may follow a target; all else is unexpected.
 #[tactic(auto, unfolding(crate::specs::inner::Lines::checked))]
 pub fn check_target(
     place: TargetPlace,

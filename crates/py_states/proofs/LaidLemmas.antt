@@ -18,8 +18,7 @@ length_laid [] vs bs = refl
 length_laid (h ∷ hs) vs bs = ap suc (length_laid hs (take h.base vs) (drop h.blocks bs))
 
 -- ---- the stack of the innermost frame, which lies above a floor of b values and s slots: of its values the first m
--- stay, so that
--- k values stay in all, and others come behind them
+-- stay, so that k values stay in all, and others come behind them
 
 module _ (b s m k : ℕ) (vs ys : List Value) (low : b + s ≤ length vs) (is : k ≡ length vs - (length vs - b - s - m))
   where

@@ -176,8 +176,8 @@ fn spelled(alloc: Global, body: &[u8]) -> Result<Bytes, TextError>
     Ok(text)
 }
 
-/// The bytes that the body of a string literal stands for, without its prefix and quotes. CR LF and CR count as LF. In a
-/// raw string backslashes stay. Its only refusal is `BadEscape`, and a raw string has none.
+/// The bytes that the body of a string literal stands for, without its prefix and quotes. CR LF and CR count as LF. In
+/// a raw string backslashes stay. Its only refusal is `BadEscape`, and a raw string has none.
 pub fn unescape(alloc: Global, body: &[u8], raw: bool) -> Result<Bytes, TextError>
     ensures { Unescapes result (unescaped raw body.now) }
 {

@@ -1,6 +1,5 @@
 -- From the words of a text to its tokens, by logical lines and the indentation stack. States `docs/LANGUAGE.md`,
--- "Lines"
--- and "Indentation".
+-- "Lines" and "Indentation".
 use Rattle.std.specs.Prelude.{ℕ, ◌+◌, ◌-◌, ◌*◌, ◌/◌, nat_lt, ◌==◌, if◌then◌else◌, List, [], ◌∷◌, ◌++◌, length, Option, Some, None, Result, Ok, Err}
 use Rattle.py_base.specs.declared.refusal.Refusal.{Refusal}
 use Rattle.py_base.specs.declared.refusal.Refusal.TheVariants.{BadDedent}

@@ -19,8 +19,7 @@ after_kind (Op n) depth rest last = rest depth
 after_kind (Other o) depth rest last = rest depth
 
 -- Slices of a text of this size, each of which begins where the one before it ends, or later. Each Dedent ends a block
--- that
--- an Indent began. End comes where no block is open, and is the last.
+-- that an Indent began. End comes where no block is open, and is the last.
 abbrev pub IsStream : ℕ → ℕ → ℕ → List Token → Type 0
 IsStream size at depth [] = ⊥
 IsStream size at depth (t ∷ ts) = (at ≤ t.from) × (t.from ≤ t.to) × (t.to ≤ size) × after_kind t.kind depth

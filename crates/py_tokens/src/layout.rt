@@ -254,8 +254,8 @@ pub fn finish(
     Ok(out)
 }
 
-/// What the text is refused for where no rule continues, at this place and for this reason: the indentation of the place
-/// comes first.
+/// What the text is refused for where no rule continues, at this place and for this reason: the indentation of the
+/// place comes first.
 fn broken(
     mode: Mode,
     mut stack: Vec<usize>,

@@ -61,8 +61,8 @@ fn lexed(alloc: Global, size: u32, chars: &[Character]) -> Result<Vec<Token>, To
 }
 
 /// The tokens of the text, by its logical lines and the indentation of each: slices of the text in order, in which each
-/// Dedent ends a block that an Indent began, and the last token is End. A text has fewer than 2^32 bytes. A text that has no
-/// tokens is refused for the earliest place where no rule continues.
+/// Dedent ends a block that an Indent began, and the last token is End. A text has fewer than 2^32 bytes. A text that
+/// has no tokens is refused for the earliest place where no rule continues.
 pub fn tokens(alloc: Global, text: &[u8]) -> Result<Vec<Token>, TokenError>
     requires { length text.now < 2 ^ 32 }
     ensures exact { Tokenizes (λ v. v.items) result (tokens_of_text text.now) }

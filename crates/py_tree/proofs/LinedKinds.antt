@@ -46,8 +46,7 @@ line_after-more byte line = go (byte == 10)
     go false = omega arith
 
 -- Characters on lines that don't fall and rise after a line end, up to the last one: the first from line a on, and the
--- last
--- line not before b.
+-- last line not before b.
 abbrev pub Chars : ℕ → ℕ → ℕ → List Character → Type 0
 Chars last a b [] = b ≤ last
 Chars last a b (c ∷ cs) = (a ≤ c.line) × (b ≤ c.line) × (c.byte < 256) × Chars last (line_after c.byte c.line) c.line cs

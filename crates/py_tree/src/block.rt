@@ -215,8 +215,8 @@ fn handlers(w: &mut Writer, each: &[Handler]) -> Result<(), NoMemory>
     Ok(())
 }
 
-/// The canonical text of a module: each simple statement and each clause on the line that the tree has for it. Where the tree
-/// is that of some text, its canonical text has this tree again.
+/// The canonical text of a module: each simple statement and each clause on the line that the tree has for it. Where
+/// the tree is that of some text, its canonical text has this tree again.
 pub fn module_text(alloc: Global, m: &Module) -> Result<Bytes, NoMemory>
     ensures { IfOk result (λ t. t ≡ module_text m.now) }
 {

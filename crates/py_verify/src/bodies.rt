@@ -11,7 +11,8 @@ use std::alloc::Global;
 
 /// Adds the code that an instruction opens as a class body, if it opens one.
 fn add(bodies: &mut IndexSet<usize>, i: &Instr) -> Result<(), NoMemory>
-    ensures { OnOk result ((f : ℕ) → contains nat_eq bodies.new f ≡ (contains nat_eq bodies.old f || opens_body f i.now)) }
+    ensures { OnOk result ((f : ℕ)
+        → contains nat_eq bodies.new f ≡ (contains nat_eq bodies.old f || opens_body f i.now)) }
 {
     if let Instr::ClassBody(f) = *i {
         let _ = bodies.insert_full(f as usize)?;
@@ -21,7 +22,8 @@ fn add(bodies: &mut IndexSet<usize>, i: &Instr) -> Result<(), NoMemory>
 
 /// Adds the codes that these instructions open as class bodies.
 fn add_all(bodies: &mut IndexSet<usize>, instrs: &[Instr]) -> Result<(), NoMemory>
-    ensures { OnOk result ((f : ℕ) → contains nat_eq bodies.new f ≡ (contains nat_eq bodies.old f || list_any (opens_body f) instrs.now)) }
+    ensures { OnOk result ((f : ℕ)
+        → contains nat_eq bodies.new f ≡ (contains nat_eq bodies.old f || list_any (opens_body f) instrs.now)) }
 {
     let mut rest = instrs;
     'instrs: while let Some((i, more)) = split(rest) {

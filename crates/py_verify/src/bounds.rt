@@ -27,12 +27,15 @@ impl<'a> Model for Bounds<'a> {
 
     ghost Value = { Limits };
 
-    ghost view = { λ b. record { slots = length b.code.now.slots; keys = b.code.now.keys; strings = first_text; cells = b.cells; roots = b.roots; params = map (λ x. x.params) b.codes.now; first = b.first } };
+    ghost view = { λ b. record {
+        slots = length b.code.now.slots; keys = b.code.now.keys; strings = first_text; cells = b.cells;
+        roots = b.roots; params = map (λ x. x.params) b.codes.now; first = b.first
+    } };
 }
 
 impl<'a> Bounds<'a> {
-    /// Those of a code of a program of these codes: the number of the first root that is a global's cell, how many roots there
-    /// are, and the first place that a jump may name.
+    /// Those of a code of a program of these codes: the number of the first root that is a global's cell, how many
+    /// roots there are, and the first place that a jump may name.
     pub fn new(
         code: &'a Code,
         codes: &'a [Code],
@@ -40,7 +43,10 @@ impl<'a> Bounds<'a> {
         roots: usize,
         first: usize,
     ) -> Bounds<'a>
-        ensures { result ≡ record { slots = length code.now.slots; keys = code.now.keys; strings = first_text; cells = cells; roots = roots; params = map (λ x. x.params) codes.now; first = first } }
+        ensures { result ≡ record {
+            slots = length code.now.slots; keys = code.now.keys; strings = first_text; cells = cells;
+            roots = roots; params = map (λ x. x.params) codes.now; first = first
+        } }
     {
         Bounds {
             code,

@@ -17,8 +17,8 @@ use py_code::{Code, Instr, Root};
 use std::alloc::Global;
 use std::marker::Model;
 
-/// The codes and the roots of a program, with the global names, the numbers of the codes that are those of class bodies, and
-/// the first root that is a global's cell.
+/// The codes and the roots of a program, with the global names, the numbers of the codes that are those of class
+/// bodies, and the first root that is a global's cell.
 #[derive(Drop)]
 pub struct Context<'s, 'a> {
     codes: &'s [Code],
@@ -38,7 +38,9 @@ impl<'s, 'a> Model for Context<'s, 'a> {
 
     ghost view = { λ w. record { codes = w.codes.now; roots = w.roots.now } };
 
-    ghost invariant = { λ w. (w.names.now ≡ names_of w.roots.now) × ((f : ℕ) → contains nat_eq w.bodies.now f ≡ is_body w.codes.now f) × (w.first_cell ≡ first_text + length (texts_of w.roots.now)) };
+    ghost invariant = { λ w. (w.names.now ≡ names_of w.roots.now)
+        × ((f : ℕ) → contains nat_eq w.bodies.now f ≡ is_body w.codes.now f)
+        × (w.first_cell ≡ first_text + length (texts_of w.roots.now)) };
 }
 
 /// Whether an instruction names no place before the first that a jump may name.

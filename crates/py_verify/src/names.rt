@@ -7,8 +7,8 @@ use py_base::NoMemory;
 use std::alloc::Global;
 use std::marker::Model;
 
-/// Names in the order in which they were added, which contracts see as that list. A name is found in constant time, but for
-/// collisions of the hash.
+/// Names in the order in which they were added, which contracts see as that list. A name is found in constant time, but
+/// for collisions of the hash.
 #[derive(Drop)]
 pub struct NameSet<'a> {
     set: IndexSet<&'a [u8]>,

@@ -165,7 +165,8 @@ fn last_text(roots: &[Root]) -> Option<&[u8]>
 /// The names of the cells, if no two are one.
 #[tactic(auto, unfolding(py_code::specs::Right::cells_of))]
 fn names_in<'a>(alloc: Global, roots: &'a [Root]) -> Result<Option<NameSet<'a>>, NoMemory>
-    ensures { IfOk result (λ v. MatchOption v (differ [] (cells_of roots.now) ≡ false) (λ s. (s ≡ cells_of roots.now) × (differ [] (cells_of roots.now) ≡ true))) }
+    ensures { IfOk result (λ v. MatchOption v (differ [] (cells_of roots.now) ≡ false)
+        (λ s. (s ≡ cells_of roots.now) × (differ [] (cells_of roots.now) ≡ true))) }
 {
     let mut rest = roots;
     let mut names = NameSet::new(alloc);
@@ -213,7 +214,8 @@ fn ends_in_main(names: &NameSet<'_>, roots: &[Root]) -> bool
 
 /// The global names among the roots, where the roots are right.
 pub fn right_roots<'a>(alloc: Global, roots: &'a [Root]) -> Result<Option<NameSet<'a>>, NoMemory>
-    ensures { IfOk result (λ v. MatchOption v (HasRoots roots.now → ⊥) (λ s. (s ≡ names_of roots.now) × HasRoots roots.now)) }
+    ensures { IfOk result (λ v. MatchOption v (HasRoots roots.now → ⊥)
+        (λ s. (s ≡ names_of roots.now) × HasRoots roots.now)) }
 {
     if !is_formed(roots) {
         return Ok(None);

@@ -55,7 +55,8 @@ fn visit(
     requires within { place < length code.now }
     requires long { length shapes.old.items ≡ length code.now }
     requires few { length code.now < 2 ^ 32 }
-    ensures { IfOk result (λ yes. Visits yes k.now code.now place shapes.old.items shapes.new.items work.old.items work.new.items) }
+    ensures { IfOk result (λ yes. Visits yes k.now code.now place
+        shapes.old.items shapes.new.items work.old.items work.new.items) }
 {
     let i = code[place];
     let Some(shape) = &shapes[place] else {

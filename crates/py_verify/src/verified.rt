@@ -10,8 +10,8 @@ use py_code::Program;
 use std::alloc::Global;
 use std::marker::Model;
 
-/// A program that is right: a machine that runs it lacks no operand, no slot, no place to go on at and no root. Only `verify`
-/// makes one.
+/// A program that is right: a machine that runs it lacks no operand, no slot, no place to go on at and no root. Only
+/// `verify` makes one.
 #[derive(Drop)]
 pub struct Verified {
     program: Program,
@@ -55,9 +55,9 @@ fn is_right_program(alloc: Global, p: &Program) -> Result<bool, NoMemory>
     Ok(right)
 }
 
-/// Tests a program before a machine runs it. It is handed back where it is right, and let go with None where it isn't. The
-/// language's document says what is tested, under "Right programs". The one error is want of memory, and then it is let go
-/// too.
+/// Tests a program before a machine runs it. It is handed back where it is right, and let go with None where it isn't.
+/// The language's document says what is tested, under "Right programs". The one error is want of memory, and then it is
+/// let go too.
 pub fn verify(alloc: Global, p: Program) -> Result<Option<Verified>, NoMemory>
     ensures { IfOk result (λ v. MatchOption v (IsRightProgram p → ⊥) (λ w. (w ≡ p) × IsRightProgram p)) }
 {

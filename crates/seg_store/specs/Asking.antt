@@ -6,8 +6,7 @@ use Rattle.seg_store.specs.declared.store.StoreFault.TheVariants.{Full, OutOfMem
 use Rattle.seg_store.specs.Extents.{Wants}
 
 -- Where the heap is full, the words that were needed are those of one extent that the record, which would stand in the
--- place
--- of another or of none, has more than that one.
+-- place of another or of none, has more than that one.
 abbrev pub AsksFor : Option Rec → Rec → StoreFault → Type 0
 AsksFor o r (Full reserved need limit) = Wants o r need
 AsksFor o r OutOfMemory = Unit {0}

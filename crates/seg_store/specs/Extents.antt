@@ -1,6 +1,5 @@
 -- The extents of a record, by class: they follow from its kind, its length and its rooms. An extent of class c has 2^c
--- words
--- of 8 bytes, for c from 1 to 21. States `docs/HEAP.md`, "Extents".
+-- words of 8 bytes, for c from 1 to 21. States `docs/HEAP.md`, "Extents".
 use Rattle.std.specs.Prelude.{◌≡◌, ℕ, Bool, zero, suc, ◌+◌, ◌*◌, ◌/◌, ◌^◌, ◌<◌, ◌≤◌, cond, ◌&&◌, eqb, leb, length, Option, Some, None}
 use Rattle.py_base.specs.declared.kind.Kind.{Kind}
 use Rattle.py_base.specs.declared.kind.Kind.TheVariants.{Str, List as ListKind, Dict}

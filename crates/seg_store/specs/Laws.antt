@@ -1,6 +1,5 @@
 -- Laws of what a segment sees and holds, in the words in which `src/laws.rt` ensures them. States `docs/HEAP.md`, "The
--- store
--- of segments".
+-- store of segments".
 use Rattle.std.specs.Prelude.{◌≡◌, ◌≢◌, ℕ}
 use Rattle.py_data.specs.Heap.{Rec, Has, at, put_at}
 use Rattle.py_data.specs.Sight.{with_mark}
@@ -39,8 +38,7 @@ pub record StepShows (k : ℕ) (m : Meaning) : Type 0 where
   pub again : saw (after_undo k m) k ≡ saw m k
 
 -- changes that are published are the image's, and show under what the other segments changed; changes that are dropped
--- show
--- no more
+-- show no more
 pub record EndShows (k : ℕ) (m : Meaning) : Type 0 where
   pub published : sees (after_publish k m) k ≡ sees m k
   pub others : (j : ℕ) → j ≢ k → sees (after_publish k m) j ≡ overlay (sees m k) (m.part j).changes

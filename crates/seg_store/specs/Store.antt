@@ -1,6 +1,5 @@
 -- What a store needs for its calls, why it refuses them, and what always holds of it. States `docs/HEAP.md`, "The store
--- of
--- segments".
+-- of segments".
 use Rattle.std.specs.Prelude.{◌≡◌, ◌≢◌, ℕ, ◌+◌, ◌<◌, ◌≤◌, Bool, true, false, ◌||◌, List, [], ◌++◌, length, Option, Some, None, is_some, IfSome}
 use Rattle.py_data.specs.declared.record.TheConstants.{LENGTH_LIMIT}
 use Rattle.py_base.specs.declared.kind.Kind.{Kind}
@@ -59,8 +58,7 @@ pub record IsFree (m : Meaning) (n : ℕ) : Type 0 where
   pub held : (j : ℕ) → holds (m.part j) n ≡ false
 
 -- Why a call that may want words was refused: for want of memory; or the heap is full, where words were wanted and
--- `fills`
--- says that so many, the second number, can't be had while the first is reserved.
+-- `fills` says that so many, the second number, can't be had while the first is reserved.
 abbrev pub Refuses : Type 0 → (ℕ → ℕ → Type 0) → ℕ → ℕ → StoreFault → Type 0
 Refuses wants fills reserved limit OutOfMemory = Unit {0}
 Refuses wants fills reserved limit (Full r n l) = wants × fills r n × (r ≡ reserved) × (l ≡ limit) × (l < r + n)

@@ -112,8 +112,7 @@ module _ {S : Type 0} (p : Prog S) (most k : ℕ) (M : Conflict → Type 0) wher
     pub few : sum_by steps_of stood.before.moves < bound
 
   -- What moves of the segment, of which so many are steps, and dooms of others lead to: nothing is committed, what the
-  -- segment runs
-  -- went on, each new conflict is one of M, and stood after fewer steps than the bound says.
+  -- segment runs went on, each new conflict is one of M, and stood after fewer steps than the bound says.
   pub record Came (steps bound : ℕ) (c u : CoreState S) : Type 0 where
     pub way : Led p most k c u
     pub count : sum_by steps_of way.moves ≡ steps

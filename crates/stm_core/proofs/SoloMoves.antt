@@ -1,7 +1,6 @@
 -- A solo transaction wins, so that it is never doomed and its commit always goes. What a call of `solo` does is a list
--- of moves,
--- and so is what comes of a step of a solo transaction that was cut: dooms of readers and a commit, or a drop, and then
--- the break.
+-- of moves, and so is what comes of a step of a solo transaction that was cut: dooms of readers and a commit, or a
+-- drop, and then the break.
 use Rattle.std.proofs.Common.{◌≡◌, ◌≢◌, ◌<◌, ◌≤◌, ◌&&◌, not, ltb, eqb, ℕ, zero, suc, Bool, true, false, cond, List, [], ◌∷◌, ◌++◌, length, slice_get, slice_set, Option, Some, None, Result, Ok, Err, refl, sym, ◌∙◌, ap, subst, inl, inr, arith}
 use Rattle.std.specs.List.{range_with_len}
 use Rattle.std.proofs.lemmas.Bool.{both_ways, cond-true, false_from_ne_true, or_left}
@@ -126,8 +125,7 @@ doom_leaves {S} i x (j ∷ js) c =
     choice false s = by_segment s
 
 -- Moves up to the last whole step of x lead from o to c: there the thread is free, no transaction is solo, and the
--- committed state
--- is what x saw.
+-- committed state is what x saw.
 record WentUp {S : Type 0} (p : Prog S) (most : ℕ) (o : Outer S) (x : Transaction S) (c : CoreState S) : Type 0 where
   pub moved : OuterLed p most o (record o { core = c })
   pub state : slice_get c.threads x.thread ≡ Some x.state

@@ -23,8 +23,7 @@ moves_of [] = []
 moves_of (t ∷ ts) = map Dooms t.dooms ++ t.move ∷ moves_of ts
 
 -- The move is a step of segment k: one that was done to its end where it is said to be done, and otherwise one that
--- waits or was
--- taken back. It looked at, locked and doomed only what its row asked for on its way.
+-- waits or was taken back. It looked at, locked and doomed only what its row asked for on its way.
 abbrev pub IsStepOf : {S : Type 0} → Prog S → Heap → World → ℕ → List Conflict → Move S → Bool → Type 0
 IsStepOf {S} p image w k fs (Goes i x x1) true =
     (i ≡ k) × (y : Outcome × S) × Went (p.row x.state) (sight_of image w x) (Ret y) x1.looked x1.changed fs
@@ -38,8 +37,7 @@ pub record IsTry {S : Type 0} (p : Prog S) (image : Heap) (w : World) (k : ℕ) 
   pub step : IsStepOf p image w k t.dooms t.move done
 
 -- n steps of the transaction of segment k were tried, one after another, and each of them was done, or none. They lead
--- from one
--- state of the core to another.
+-- from one state of the core to another.
 pub record Tried {S : Type 0} (p : Prog S) (most k : ℕ) (done : Bool) (n : ℕ) (c c1 : CoreState S) : Type 0 where
   pub tries : List (Try S)
   pub follows : Follows p most c (moves_of tries) c1

@@ -30,8 +30,7 @@ IsOuter (Take most) = Unit {0}
 IsOuter _ = ⊥
 
 -- a change of the record a that wants so many words: it has no room for what the change adds, and these are the words
--- of an
--- extent that it has more with the change done
+-- of an extent that it has more with the change done
 abbrev pub ChangeWants : Change → Heap → ℕ → ℕ → Type 0
 ChangeWants c h a n = IfThere false (h a) (λ r. Outgrows c r × Wants (Some r) (after c r) n)
 
@@ -84,10 +83,9 @@ ChangesNext (Ret y) a = ⊥
 ChangesNext (Do c f) a = Changes a c
 
 -- How far a step went: its row's calls, from the sight s on, were done up to a place, at which `left` is left of it.
--- Whatever
--- is looked at now was so there, or is what the next call looks at; whatever is locked now was changed there, or is
--- what the next
--- call changes; and each doom of another segment was for a record that the row asked to change on this way.
+-- Whatever is looked at now was so there, or is what the next call looks at; whatever is locked now was changed there,
+-- or is what the next call changes; and each doom of another segment was for a record that the row asked to change on
+-- this way.
 pub record Went {S A : Type 0} (row : Row S A) (s : Sight S) (left : Row S A) (looked : Marks) (locked : List ℕ)
     (dooms : List Conflict) : Type 0 where
   pub place : Sight S

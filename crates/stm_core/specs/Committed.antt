@@ -10,8 +10,8 @@ use Rattle.stm_core.specs.Conflict.{side, wins, IsStanding}
 use Rattle.stm_core.specs.Passes.{met, after_commit, NoneWins}
 
 -- The first pass of the writer x on segment i ends at a conflict that stands, with a reader that wins: of the running
--- transactions
--- that have looked at a record that x changed, and that win, the one of the least segment, and the first such record.
+-- transactions that have looked at a record that x changed, and that win, the one of the least segment, and the first
+-- such record.
 pub record Beaten {S : Type 0} (p : Prog S) (i : ℕ) (x : Transaction S) (f : Conflict) (c : CoreState S) : Type 0 where
   pub stands : IsStanding p c f
   pub writer : f.writer.segment ≡ i

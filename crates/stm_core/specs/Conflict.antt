@@ -16,8 +16,7 @@ abbrev pub side : {S : Type 0} → ℕ → Transaction S → Side
 side i x = record { segment = i; thread = x.thread; begun = x.begun; solo = x.solo }
 
 -- the conflict over the record a between the writer x of segment i, which has locked it, and y of segment j, which has
--- looked
--- at it, or asks to change it
+-- looked at it, or asks to change it
 abbrev pub conflict : {S : Type 0} → ℕ → Transaction S → ℕ → Transaction S → ℕ → Bool → ℕ → Conflict
 conflict i x j y a asks lost = record {
   at = record { 0 = a };
@@ -44,15 +43,13 @@ wins x y = x.solo || (not y.solo && ltb x.begun y.begun)
 -- ---- when it stands
 
 -- The transaction y meets the lock of the record a: its next step comes to a call that changes the record, where the
--- conflict says
--- that it asks; otherwise it has looked at it.
+-- conflict says that it asks; otherwise it has looked at it.
 abbrev pub IsMet : {S : Type 0} → Prog S → Heap → World → Transaction S → ℕ → Bool → Type 0
 IsMet p image w y a true = Reaches (p.row y.state) (sight_of image w y) (AsksToChange a)
 IsMet p image w y a false = y.looked a ≡ true
 
 -- A conflict stands: its sides are the transactions that run on two segments, the writer has locked the record, and the
--- other
--- one meets the lock. The side of the number `lost` loses, which is the one that doesn't win.
+-- other one meets the lock. The side of the number `lost` loses, which is the one that doesn't win.
 pub record IsStanding {S : Type 0} (p : Prog S) (k : CoreState S) (f : Conflict) : Type 0 where
   pub x : Transaction S
   pub y : Transaction S

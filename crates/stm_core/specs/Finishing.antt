@@ -42,9 +42,8 @@ SettlesSolo {S} p n o u =
     (Committed p k n (Ok c)) o u)
 
 -- What a core of n segments that stood for o hands out: the solo transaction was committed, and what else ran dropped,
--- which led to
--- o1. It keeps all that a core keeps; how it stands, its history, conflicts and image are told, and the devices were
--- told what it says.
+-- which led to o1. It keeps all that a core keeps; how it stands, its history, conflicts and image are told, and the
+-- devices were told what it says.
 pub record HandedOut {S : Type 0} (p : Prog S) (most budget n : ℕ) (first d : DeviceState) (state : RunState)
     (failed : Bool) (history : List Turn) (conflicts : List Conflict) (image : Heap) (o o1 : Outer S) : Type 0 where
   pub settled : Outer S

@@ -22,10 +22,8 @@ pub record IsLocked (image : Heap) (looked : Marks) (a : ℕ) : Type 0 where
   pub marked : looked a ≡ true
 
 -- A sight shows what a transaction has: the image with its changes laid over it, its names and its started threads.
--- What was looked
--- at and changed is in its sets, and it changed only what it holds. Its locks are locks, and its names are free in the
--- image. Where
--- it is solo its world is the sight's, and otherwise the world wasn't used.
+-- What was looked at and changed is in its sets, and it changed only what it holds. Its locks are locks, and its names
+-- are free in the image. Where it is solo its world is the sight's, and otherwise the world wasn't used.
 pub record Shows {S : Type 0} (image : Heap) (x : Transaction S) (sight : Sight S) : Type 0 where
   pub view : (a : ℕ) → sight.heap a ≡ over (x.changes a) (image a)
   pub made : sight.made ≡ places x.made
@@ -65,9 +63,8 @@ pub record Unfinished {S : Type 0} (p : Prog S) (k : CoreState S) : Type 0 where
   pub rests : (i : ℕ) (x : Transaction S) → k.segments i ≡ Running x → x.thread ≢ thread
 
 -- A core is good, from the machine's state `start` on: its history is a run that gives the committed state, each
--- transaction
--- that runs stands and is apart from the others, each conflict was one, and a doomed segment lost the one that it
--- holds.
+-- transaction that runs stands and is apart from the others, each conflict was one, and a doomed segment lost the one
+-- that it holds.
 pub record Good {S : Type 0} (p : Prog S) (start : Machine S) (most : ℕ) (k : CoreState S) : Type 0 where
   pub run : Runs p start k.history (committed k)
   pub short : All (λ (t : Turn). IsShort most t.steps) k.history

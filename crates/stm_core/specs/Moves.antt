@@ -51,8 +51,7 @@ pub record Stays {S : Type 0} (image : Heap) (x x1 : Transaction S) : Type 0 whe
   pub locked : (a : ℕ) → mem a x1.changed ≡ true → IsLocked image x1.looked a
 
 -- After fewer steps of a thread that has the state q than a transaction may have, from the committed state on, its next
--- step
--- comes to a call that wants so many words.
+-- step comes to a call that wants so many words.
 pub record ComesToWant {S : Type 0} (p : Prog S) (most : ℕ) (image : Heap) (w : World) (q : S) (n : ℕ) : Type 0 where
   pub done : ℕ
   pub after : S

@@ -53,8 +53,7 @@ pub record IsTold {S : Type 0} (o : Outer S) : Type 0 where
   pub alone : ((i : ℕ) (x : Transaction S) → o.core.segments i ≡ Running x → x.solo ≡ false) → o.told ≡ o.core.world
 
 -- A step broke: a cause is kept, no transaction is solo, and no segment runs its thread, which lives. It was the
--- thread's next one,
--- and a kept fault of a device is one of the call in which it was cut.
+-- thread's next one, and a kept fault of a device is one of the call in which it was cut.
 pub record IsBroken {S : Type 0} (p : Prog S) (first : Machine S) (o : Outer S) (b : Broken) : Type 0 where
   pub caused : o.core.cause ≢ None
   pub solo : (i : ℕ) (x : Transaction S) → o.core.segments i ≡ Running x → x.solo ≡ false
@@ -71,8 +70,7 @@ pub record Outside {S : Type 0} (p : Prog S) (first : Machine S) (o : Outer S) :
   pub faulted : (e : Cause) → o.core.cause ≡ Some e → is_device e ≡ true → (b : Broken) × (o.broken ≡ Some b)
 
 -- ALL THAT A CORE KEEPS, from the machine's state `first` on: it is good, each conflict of its list stood, and its
--- devices were told
--- what the transactions did.
+-- devices were told what the transactions did.
 pub record Kept {S : Type 0} (p : Prog S) (first : Machine S) (most : ℕ) (o : Outer S) : Type 0 where
   pub good : Good p first most o.core
   pub stood : All (Stood p first o.core.history) o.core.conflicts

@@ -43,8 +43,7 @@ pub record IsLent {S : Type 0} (p : Prog S) (length k : ℕ) (l : Loan S) (o o1 
   pub loan : IsLoan o.core.image x (piece_state l.view).loaned (piece_state l.view).locked
 
 -- what a call answers that asks segment k for a loan, and what it leaves: a doomed segment is told its conflict, and
--- has
--- nothing in hand then; want of memory is one of a transaction that runs, and leaves all as it is
+-- has nothing in hand then; want of memory is one of a transaction that runs, and leaves all as it is
 abbrev pub IsLoaned : {S : Type 0} → Prog S → ℕ → ℕ → Result (Loan S) LoanError → Outer S → Outer S → Type 0
 IsLoaned p length k (Ok l) o o1 = IsLent p length k l o o1
 IsLoaned p length k (Err (Lost f)) o o1 =

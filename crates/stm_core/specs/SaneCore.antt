@@ -15,8 +15,7 @@ use Rattle.stm_core.specs.Devices.{DeviceState, Tells, CountsGrow}
 use Rattle.stm_core.specs.Books.{Worlds, broken_of, core_of}
 
 -- Store and books stand for this state of the core, and the devices, which were `first` when the core was made, were
--- told what it
--- says. The state keeps all that a core keeps, from the machine's first state over that input on.
+-- told what it says. The state keeps all that a core keeps, from the machine's first state over that input on.
 pub record StandsFor {S : Type 0} (p : Prog S) (most : ℕ) (first d : DeviceState) (m : Meaning) (b : Books S)
     (o : Outer S) : Type 0 where
   pub worlds : Worlds
@@ -34,8 +33,7 @@ CauseRose (Some ErrFault) d d1 = Rose d.errs d1.errs
 CauseRose _ d d1 = Unit {0}
 
 -- The client's first state may stand over the empty heap. There is a state for which the core stands, no count of
--- faults fell since it
--- was made, and that of a kept fault rose.
+-- faults fell since it was made, and that of a kept fault rose.
 pub record SaneCore {S : Type 0} (p : Prog S) (sound : Heap → List S → Type 0) (most : ℕ) (first d : DeviceState)
     (m : Meaning) (b : Books S) : Type 0 where
   pub first_sound : sound no_records (p.first ∷ [])

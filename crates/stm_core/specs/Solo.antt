@@ -38,15 +38,13 @@ Soloed k r o o1 = SoloedFrom (o.core.segments k) k r o o1
 -- ---- a step of a solo transaction that was cut
 
 -- The transaction x of segment k is committed up to its last whole step, in both passes over n segments; where it has
--- done none,
--- it is dropped.
+-- done none, it is dropped.
 abbrev pub up_to_whole : {S : Type 0} → ℕ → ℕ → Transaction S → ℕ → CoreState S → CoreState S
 up_to_whole k n x zero c = with_segment k Idle c
 up_to_whole k n x (suc i) c = after_commit k x (range_with_len 0 n) c
 
 -- The next step of the solo transaction x of segment k was cut for this cause. The transaction is committed up to its
--- last whole
--- step; then the step is the next one of its thread, and what was told of it stays told.
+-- last whole step; then the step is the next one of its thread, and what was told of it stays told.
 pub record SoloFailed {S : Type 0} (p : Prog S) (k n : ℕ) (e : Cause) (o : Outer S) (x : Transaction S)
     (o1 : Outer S) : Type 0 where
   pub lives : p.life x.state ≡ Lives

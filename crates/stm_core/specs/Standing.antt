@@ -17,8 +17,7 @@ slot_of (Doomed f) = slot.Doomed
 slot_of (Running x) = slot.Running x.thread x.steps x.solo
 
 -- The order in which threads are looked for: those above the one last begun come first, in the order of their numbers,
--- and
--- then the others. The thread s comes before t.
+-- and then the others. The thread s comes before t.
 abbrev pub sooner : Option ℕ → ℕ → ℕ → Bool
 sooner None s t = ltb s t
 sooner (Some l) s t = cond (ltb l t) (ltb l s && ltb s t) (ltb l s || ltb s t)

@@ -10,10 +10,8 @@ use Rattle.stm_core.specs.Conflict.{conflict, loser, winner, wins, IsMet}
 use Rattle.stm_core.specs.Good.{Stands, Apart}
 
 -- A conflict stood: a front of the history is a run to a machine over which two transactions of different segments
--- stood, apart
--- from each other. The writer had locked the record, and the other one met the lock. The side of the number `lost`
--- loses, which is
--- the one that doesn't win, and isn't solo.
+-- stood, apart from each other. The writer had locked the record, and the other one met the lock. The side of the
+-- number `lost` loses, which is the one that doesn't win, and isn't solo.
 pub record Stood {S : Type 0} (p : Prog S) (first : Machine S) (history : List Turn) (f : Conflict) : Type 0 where
   pub front : List Turn
   pub rest : List Turn

@@ -39,8 +39,7 @@ Hindered p q d OutOfMemory = Unit {0}
 
 -- After n of at most so many steps a piece ended so, in the state q and with the view d. The thread has ended exactly
 -- where the piece says so; a piece that says Most has all its steps, and one that says another reason has fewer, and
--- that
--- reason is true of the next step. Want of memory alone is always possible.
+-- that reason is true of the next step. Want of memory alone is always possible.
 abbrev pub EndsSo : {S : Type 0} → Prog S → ℕ → ℕ → S → PieceState → PieceEnd → Type 0
 EndsSo p most n q d Most = (p.life q ≡ Lives) × (n ≡ most)
 EndsSo p most n q d Ended = p.life q ≢ Lives

@@ -1,6 +1,5 @@
 -- What a piece view says of itself as a view, for each type whose values hold a piece state. States `docs/HEAP.md`,
--- "The
--- piece view" and "Views".
+-- "The piece view" and "Views".
 use Rattle.std.specs.Prelude.{◌≡◌, Bool, true, false, None}
 use Rattle.py_data.specs.declared.stop.Stop.{Stop}
 use Rattle.py_data.specs.declared.stop.Stop.TheVariants.{NeedSolo, NeedHeap, OutOfMemory}

@@ -50,8 +50,8 @@ const ALONE_STEPS: u64 = 1_000;
 const WORTHY_STEPS: u64 = 16;
 
 /// How many steps a visit does where there is one segment alone, or it asks for a loan, and where the piece that was
-/// brought to it did so many. After a piece that went far it is one step, for which the piece ended; otherwise there are
-/// as many as without pieces, since the records that a piece wants are met so.
+/// brought to it did so many. After a piece that went far it is one step, for which the piece ended; otherwise there
+/// are as many as without pieces, since the records that a piece wants are met so.
 fn steps_after(alone: bool, asks: bool, piece: u64) -> u64 {
     if alone {
         return ALONE_STEPS;

@@ -1,6 +1,5 @@
 -- A heap that has room for a small run, and one that hasn't: the program and the history are those of the worked rows
--- of
--- `heap_bound`. States `docs/HEAP.md`, "The bound on a full heap".
+-- of `heap_bound`. States `docs/HEAP.md`, "The bound on a full heap".
 use Rattle.std.proofs.Common.{ℕ, ◌≤◌, [], ◌∷◌, sym, subst, arith}
 use Rattle.stm_core.specs.Events.{Limits}
 use Rattle.heap_bound.specs.Worked.{one_cell, cell_begins, cell_turn, cell_ends, cell_room}

@@ -134,8 +134,7 @@ AtComplete p m _ = ⊥
 -- ---- what the devices are left with
 
 -- The devices are left as the machine says: the input with its count of ends, the output, and the error output, to
--- which the text was put
--- last.
+-- which the text was put last.
 pub record LeftBy {S : Type 0} (a : Devices) (text : List ℕ) (b : Devices) (m : Machine S) : Type 0 where
   pub input : b.input.told ≡ m.world.input
   pub ends : b.input.ends ≡ m.world.ends

@@ -1,6 +1,5 @@
 -- Nothing here is to be believed: it is proved that a good core has as many turns as its history tells, and that what
--- has grown from it
--- has no fewer.
+-- has grown from it has no fewer.
 use Rattle.std.specs.Prelude.{◌≡◌, ◌≤◌, ◌++◌, ℕ, List, Option, length}
 use Rattle.std.proofs.Common.{subst, sym, ap, ◌∙◌}
 use Rattle.std.proofs.Math.Nat.{le-add_right}

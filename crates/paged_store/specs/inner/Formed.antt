@@ -28,8 +28,7 @@ pub record Formed (w : Words) (a : ℕ) : Type 0 where
   pub even : 0 < body_size w a → body_by w a % 2 ≡ 0
 
 -- The places of a record are its own: of each place `own` is the record's address, and `role` the part that it belongs
--- to,
--- which is 0 for a header, twice its class for a body and 1 more than that for an index.
+-- to, which is 0 for a header, twice its class for a body and 1 more than that for an index.
 pub record Lays (own role w : Words) (a : ℕ) : Type 0 where
   pub head : (p : ℕ) → in_head a p ≡ true → (own p ≡ a) × (role p ≡ 0)
   pub body : (p : ℕ) → in_body w a p ≡ true → (own p ≡ a) × (role p ≡ 2 * class_in (w (2 * a)))

@@ -1,6 +1,5 @@
 -- The index of a dictionary, in the words of its extent. What code and proofs say to each other: nothing public rests
--- on
--- it.
+-- on it.
 use Rattle.std.specs.Prelude.{◌≡◌, ℕ, ◌+◌, ◌*◌, ◌/◌, Bool, true, ◌||◌, length}
 use Rattle.py_base.specs.declared.kind.Kind.TheVariants.{Dict}
 use Rattle.py_data.specs.declared.value.Value.{Value}

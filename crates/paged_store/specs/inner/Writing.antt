@@ -170,8 +170,7 @@ grown_words w a body index =
 -- ---- new records
 
 -- the words with a new record of these values and bytes at a, whose header's first word is `first`, whose body and
--- index
--- stand at these places, and whose index has so many words, with nothing in them
+-- index stand at these places, and whose index has so many words, with nothing in them
 abbrev pub filled_words : Words → ℕ → ℕ → ℕ → ℕ → ℕ → ℕ → List Value → List ℕ → Words
 filled_words w a first n body index size vs bs =
     headed a first body index

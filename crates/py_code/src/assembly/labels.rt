@@ -31,7 +31,8 @@ fn unmarked(alloc: Global, n: usize) -> Result<Items<bool>, NoMemory>
 
 /// Marks the place that an instruction names.
 fn mark(named: &mut Items<bool>, i: &Instr)
-    ensures { (all places : List Instr) → named.old ≡ marks all 0 places → named.new ≡ marks (all ++ i.now ∷ []) 0 places }
+    ensures { (all places : List Instr)
+        → named.old ≡ marks all 0 places → named.new ≡ marks (all ++ i.now ∷ []) 0 places }
 {
     if let Operand::Place(place) = operand_of(i) {
         if (place as usize) < named.len() {

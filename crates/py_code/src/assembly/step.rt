@@ -127,7 +127,8 @@ fn arguments_text(
     n: u32,
     l: u32,
 ) -> Result<Bytes, NoMemory>
-    ensures { IfOk result (λ t. t ≡ decimal n ++ codes " keywords " ++ decimal l ++ keys_text roots.now (get_or lists.now l [])) }
+    ensures { IfOk result (λ t. t
+        ≡ decimal n ++ codes " keywords " ++ decimal l ++ keys_text roots.now (get_or lists.now l [])) }
 {
     let mut text = digits(alloc, n as u64)?;
     text.extend_from_slice(b" keywords ")?;
@@ -181,7 +182,8 @@ fn label_text(alloc: Global, before: &[u8], label: usize) -> Result<Bytes, NoMem
 
 /// The place that an instruction names, and its label.
 fn place_text(alloc: Global, labels: &Labels, place: u32) -> Result<Bytes, NoMemory>
-    ensures { IfOk result (λ t. t ≡ named place (option_map (λ l. codes "to " ++ label_text l) (label_at labels.now place))) }
+    ensures { IfOk result (λ t. t
+        ≡ named place (option_map (λ l. codes "to " ++ label_text l) (label_at labels.now place))) }
 {
     match label_at(labels, place as usize) {
         Some(label) => {

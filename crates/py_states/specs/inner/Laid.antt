@@ -20,8 +20,7 @@ frame_of h vs bs = record {
 }
 
 -- The frames of these heads, the innermost first. Of the values the last ones are the innermost frame's, of the blocks
--- the
--- first.
+-- the first.
 abbrev pub laid : List Head → List Value → List Block → List Frame
 laid [] vs bs = []
 laid (h ∷ hs) vs bs = frame_of h (drop h.base vs) (take h.blocks bs) ∷ laid hs (take h.base vs) (drop h.blocks bs)

@@ -48,8 +48,7 @@ sight k d = record {
 -- ---- what a call may do to other segments
 
 -- The conflict of the side `me` of segment k, whose transaction is out of its hand and asks to change the record, with
--- the
--- transaction of another segment that has locked it.
+-- the transaction of another segment that has locked it.
 pub record MeetsLock {S : Type 0} (k : ℕ) (me : Side) (f : Conflict) (c : CoreState S) : Type 0 where
   pub writer : Transaction S
   pub writes : c.segments f.writer.segment ≡ Running writer
@@ -76,8 +75,7 @@ abbrev pub KeepsFront : {X : Type 0} → ℕ → List X → ℕ → List X → T
 KeepsFront n xs n1 ys = n ≤ length xs → (n1 ≤ length ys) × (take n1 ys ≡ take n xs)
 
 -- What calls of segment k, which acts for the side `me`, leave beside its own sight: other segments are only doomed,
--- each for
--- a record that the calls ask to change.
+-- each for a record that the calls ask to change.
 pub record Beside {S : Type 0} (k : ℕ) (me : Side) (asks : ℕ → Type 0) (d e : Hold S) : Type 0 where
   pub saw : saw e.meaning k ≡ saw d.meaning k
   pub image : e.meaning.image ≡ d.meaning.image
@@ -140,8 +138,7 @@ pub record LosesTo {S : Type 0} (k : ℕ) (me : Side) (f : Conflict) (c : CoreSt
   pub loses : wins me f.writer ≡ false
 
 -- Why each Halt comes, where the call was asked for over the heap h: only one that isn't solo wants to be, and only a
--- solo one
--- meets a fault of a device.
+-- solo one meets a fault of a device.
 abbrev pub SegWhy : {S : Type 0} → ℕ → Side → Halt → Call S → Heap → Hold S → Type 0
 SegWhy k me (Lost f) c h e = Changes f.at.0 c × ((w : Worlds) → LosesTo k me f (core_of w e.meaning e.books))
 SegWhy k me NeedSolo c h e = (me.solo ≡ false) × IsOuter c
@@ -150,8 +147,7 @@ SegWhy k me OutOfMemory c h e = IsHeld c
 SegWhy k me s c h e = (me.solo ≡ true) × IsFaultOf s c
 
 -- A call that was refused: at most one record more was looked at, the one that the call asks for, and at most one more
--- locked,
--- the one that it changes.
+-- locked, the one that it changes.
 pub record SegRefuses {S : Type 0} (k : ℕ) (me : Side) (c : Call S) (d : Hold S) (s : Halt) (e : Hold S) : Type 0 where
   pub last : e.last ≡ gave s
   pub beside : Beside k me (λ a. Changes a c) d e

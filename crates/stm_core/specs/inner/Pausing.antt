@@ -23,10 +23,8 @@ use Rattle.stm_core.specs.Advance.{Gone}
 use Rattle.stm_core.specs.inner.Trying.{core_with, Sane, SaneShown}
 
 -- The next step of the transaction x of segment k was cut at a call that it comes to: the call changes a record by
--- which x loses
--- a conflict that stands, prints or reads, or wants words that the store doesn't have; or there was no memory, or, of a
--- solo one, a
--- device failed.
+-- which x loses a conflict that stands, prints or reads, or wants words that the store doesn't have; or there was no
+-- memory, or, of a solo one, a device failed.
 abbrev pub StopWhy : {S : Type 0} → Prog S → Worlds → ℕ → Halt → Meaning → ℕ → Books S → Work S → Type 0
 StopWhy p w k (Lost f) m reserved b x = IsStanding p (core_with w k m b x) f × AsksFrom k 1 f × (x.solo ≡ false)
 StopWhy p w k NeedSolo m reserved b x = Reaches (p.row x.state)
@@ -38,8 +36,7 @@ StopWhy p w k OutOfMemory m reserved b x = Unit {0}
 StopWhy p w k _ m reserved b x = x.solo ≡ true
 
 -- The transaction x of segment k came to here. Either its thread lives no more; or it lives, and all steps that were
--- asked for
--- were done, or the next step waits over what the transaction sees, or the next step was cut.
+-- asked for were done, or the next step waits over what the transaction sees, or the next step was cut.
 abbrev pub PauseWhy : {S : Type 0} → Prog S → Worlds → ℕ → Pause → Meaning → ℕ → Books S → Work S → Type 0
 PauseWhy p w k Ended m reserved b x = p.life x.state ≢ Lives
 PauseWhy p w k Whole m reserved b x = p.life x.state ≡ Lives
@@ -56,8 +53,7 @@ HasTold p t e w k (Stopped stop) m x d = x.solo ≡ true →
 HasTold p t e w k _ m x d = Shown x.solo t e d w.own
 
 -- Steps of the transaction, from a state c of the core on, came to an end so: `done` of them were done, and the next
--- one was tried
--- where one is left.
+-- one was tried where one is left.
 pub record Paused {S : Type 0} (p : Prog S) (length k : ℕ) (t e : Option (List ℕ)) (w : Worlds) (c : CoreState S)
     (done : ℕ) (pause : Pause) (m1 : Meaning) (r1 : ℕ) (b1 : Books S) (x1 : Work S) (d1 : DeviceState) : Type 0 where
   pub own : World
@@ -72,8 +68,7 @@ PauseRose (Stopped stop) d d1 = StopRose stop d d1
 PauseRose _ d d1 = Unit {0}
 
 -- What steps leave of the devices: no count of faults falls, a fault that a pause tells was counted, and steps of a
--- transaction that isn't
--- solo tell them nothing.
+-- transaction that isn't solo tell them nothing.
 pub record DevicesGrow (solo : Bool) (pause : Pause) (d d1 : DeviceState) : Type 0 where
   pub counts : CountsGrow d d1
   pub rose : PauseRose pause d d1

@@ -58,8 +58,7 @@ with_both b more = record b {
 -- ---- the view
 
 -- a view of type X: what it holds, its devices, its segment, the side that it acts for, and that two values of it
--- borrow the same
--- things
+-- borrow the same things
 module _ {T X : Type 0} (hold : X → Hold T) (devices : X → DeviceState) (segment : X → ℕ) (me : X → Side)
     (same : X → X → Type 0) where
   -- a look at a record that was seen changes nothing

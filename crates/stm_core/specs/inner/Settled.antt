@@ -16,8 +16,7 @@ use Rattle.stm_core.specs.inner.Pausing.{PauseWhy, HasTold}
 use Rattle.stm_core.specs.SaneCore.{CauseRose}
 
 -- The state o, with the transaction x out of its hand: its world is that of the devices where it is solo, and where it
--- isn't, what was
--- told is as it was.
+-- isn't, what was told is as it was.
 pub record IsTakenOut {S : Type 0} (t e : Option (List ℕ)) (d : DeviceState) (w : Worlds) (k : ℕ) (m : Meaning)
     (b : Books S) (x : Work S) (o : Outer S) : Type 0 where
   pub core : o.core ≡ core_with w k m b x
@@ -27,8 +26,7 @@ pub record IsTakenOut {S : Type 0} (t e : Option (List ℕ)) (d : DeviceState) (
   pub shown : Shown x.solo t e d w.own
 
 -- The state o, in which steps of x came to an end so, with x out of its hand: what was told is the world of x where it
--- is solo, up to its
--- last whole step, and where it isn't, what the devices were told.
+-- is solo, up to its last whole step, and where it isn't, what the devices were told.
 pub record IsOut {S : Type 0} (p : Prog S) (t e : Option (List ℕ)) (d : DeviceState) (w : Worlds) (k : ℕ)
     (pause : Pause) (m : Meaning) (r : ℕ) (b : Books S) (x : Work S) (o : Outer S) : Type 0 where
   pub core : o.core ≡ core_with w k m b x

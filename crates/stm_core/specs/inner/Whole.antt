@@ -50,8 +50,7 @@ abbrev pub stepped : {S : Type 0} → Work S → Work S
 stepped x = record x { steps = suc x.steps }
 
 -- Other segments were doomed by these conflicts, and then the step was done, or it waits. The world of a solo
--- transaction is `own`
--- then; of another one, and of one that waits, it is as it was.
+-- transaction is `own` then; of another one, and of one that waits, it is as it was.
 pub record StepDone {S : Type 0} (p : Prog S) (w : Worlds) (own : World) (k : ℕ) (me : Side) (o : Outcome)
     (m : Meaning) (b : Books S) (x : Work S) (m1 : Meaning) (b1 : Books S) (x1 : Work S) : Type 0 where
   pub dooms : List Conflict
@@ -67,8 +66,7 @@ pub record StepDone {S : Type 0} (p : Prog S) (w : Worlds) (own : World) (k : �
       (m1.part k).looked (m1.part k).changed dooms
 
 -- Where a row, from the sight s, was stopped: its calls were done up to a place, and there the code found no memory, or
--- the next
--- call was refused.
+-- the next call was refused.
 pub record StopsAt {S A : Type 0} (k : ℕ) (me : Side) (row : Row S A) (s : Sight S) (e : Halt) (c d : Hold S) : Type 0
   where
     pub left : Row S A
@@ -81,8 +79,7 @@ pub record StopsAt {S A : Type 0} (k : ℕ) (me : Side) (row : Row S A) (s : Sig
         d)
 
 -- Why a step wasn't done: from the sight s its row comes to a call that was refused, as the core is afterwards. Only
--- one that isn't
--- solo meets a lock that wins, or wants to be solo; only a solo one meets a fault of a device.
+-- one that isn't solo meets a lock that wins, or wants to be solo; only a solo one meets a fault of a device.
 abbrev pub CutWhy : {S A : Type 0} → ℕ → Side → Halt → Row S A → Sight S → CoreState S → ℕ → ℕ → Type 0
 CutWhy k me (Lost f) row s c reserved limit = LosesTo k me f c × Reaches row s (AsksToChange f.at.0)
 CutWhy k me NeedSolo row s c reserved limit = (me.solo ≡ false) × Reaches row s AsksOutside
