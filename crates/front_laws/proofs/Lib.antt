@@ -1,25 +1,25 @@
-pub mod LayoutLemmas
-pub mod NameFronts
-pub mod NoFront
-pub mod NumberBytes
-pub mod NumberCaused
-pub mod NumberFound
-pub mod NumberFronts
-pub mod NumberReading
-pub mod NumberSpelled
-pub mod NumberWide
-pub mod OneKind
-pub mod OneNumber
-pub mod OneString
-pub mod PieceLemmas
-pub mod Reading
-pub mod NumberRefusals
-pub mod Runs
-pub mod Spelling
-pub mod StringCauses
-pub mod StringFronts
-pub mod Tables
-pub mod TargetForms
-pub mod TokenFronts
-pub mod TreeLemmas
-pub mod Worked
+mod LayoutLemmas
+mod NameFronts
+mod NoFront
+mod NumberBytes
+mod NumberCaused
+mod NumberFound
+mod NumberFronts
+mod NumberReading
+mod NumberSpelled
+mod NumberWide
+mod OneKind
+mod OneNumber
+mod OneString
+mod PieceLemmas
+mod Reading
+mod NumberRefusals
+mod Runs
+mod Spelling
+mod StringCauses
+mod StringFronts
+mod Tables
+mod TargetForms
+mod TokenFronts
+mod TreeLemmas
+mod Worked

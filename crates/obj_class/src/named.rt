@@ -1,8 +1,8 @@
 //! The builtins that are attributes by their names: the methods of some kinds, and what the modules have.
-ghost use Rattle.std.specs.Prelude.{◌≡◌, map};
-ghost use Rattle.py_base.specs.Numbers.{number_beside};
+ghost use Rattle.std.specs.Prelude.{◌≡◌};
 ghost use Rattle.obj_class.specs.Named.{is_error, is_thread, member_of, method_of};
 
+use py_base::number_beside;
 use py_data::{Kind, builtin};
 
 /// The methods of strings.
@@ -65,28 +65,16 @@ const THREADING_MEMBERS: [(&[u8], u8); 2] = [
     (b"Lock", builtin::LOCK),
 ];
 
-/// The number beside that name in a table, if the name is there.
-fn number(table: &[(&'static [u8], u8)], name: &[u8]) -> Option<u8>
-    ensures { result ≡ number_beside (map (λ e. (e.1, e.0.now)) table.now) name.now }
-{
-    for entry in table {
-        if entry.0 == name {
-            return Some(entry.1);
-        }
-    }
-    None
-}
-
 /// The number of the method of that name, of values of a kind.
 pub fn method_of(kind: Kind, name: &[u8]) -> Option<u8>
     ensures { result ≡ method_of kind name.now }
 {
     match kind {
-        Kind::Str => number(&STR_METHODS, name),
-        Kind::List => number(&LIST_METHODS, name),
-        Kind::Dict => number(&DICT_METHODS, name),
-        Kind::Lock => number(&LOCK_METHODS, name),
-        Kind::Thread => number(&THREAD_METHODS, name),
+        Kind::Str => number_beside(&STR_METHODS, name),
+        Kind::List => number_beside(&LIST_METHODS, name),
+        Kind::Dict => number_beside(&DICT_METHODS, name),
+        Kind::Lock => number_beside(&LOCK_METHODS, name),
+        Kind::Thread => number_beside(&THREAD_METHODS, name),
         _ => None,
     }
 }
@@ -96,9 +84,9 @@ pub fn member_of(b: u8, name: &[u8]) -> Option<u8>
     ensures { result ≡ member_of b name.now }
 {
     if b == builtin::THREAD_MODULE {
-        number(&THREAD_MEMBERS, name)
+        number_beside(&THREAD_MEMBERS, name)
     } else if b == builtin::THREADING_MODULE {
-        number(&THREADING_MEMBERS, name)
+        number_beside(&THREADING_MEMBERS, name)
     } else {
         None
     }

@@ -1,3 +1,3 @@
 pub mod Lists
-pub mod Numbering
-pub mod NameLists
+mod Numbering
+mod NameLists

@@ -1,3 +1,4 @@
 pub mod Collection
 pub mod Refusal
 pub mod Numbers
+pub mod NameLists

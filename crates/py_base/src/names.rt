@@ -133,8 +133,8 @@ fn name(table: &[(&'static [u8], u8)], n: u8) -> Option<&'static [u8]>
     }
 }
 
-/// The number beside that name in a table, if the name is there.
-fn number(table: &[(&'static [u8], u8)], name: &[u8]) -> Option<u8>
+/// The number beside that name in a table, if the name is there; of several the first.
+pub fn number_beside(table: &[(&'static [u8], u8)], name: &[u8]) -> Option<u8>
     ensures { result ≡ number_beside (map (λ e. (e.1, e.0.now)) table.now) name.now }
 {
     for entry in table {
@@ -156,7 +156,7 @@ pub fn unary_sign(n: u8) -> Option<&'static [u8]>
 pub fn unary_number(sign: &[u8]) -> Option<u8>
     ensures { result ≡ number_in unary_signs sign.now }
 {
-    number(&UNARY_SIGNS, sign)
+    number_beside(&UNARY_SIGNS, sign)
 }
 
 /// The sign of the operator of BINARY and INPLACE of that number, if there is one.
@@ -170,7 +170,7 @@ pub fn binary_sign(n: u8) -> Option<&'static [u8]>
 pub fn binary_number(sign: &[u8]) -> Option<u8>
     ensures { result ≡ number_in binary_signs sign.now }
 {
-    number(&BINARY_SIGNS, sign)
+    number_beside(&BINARY_SIGNS, sign)
 }
 
 /// The sign of the operator of COMPARE of that number, if there is one.
@@ -184,7 +184,7 @@ pub fn compare_sign(n: u8) -> Option<&'static [u8]>
 pub fn compare_number(sign: &[u8]) -> Option<u8>
     ensures { result ≡ number_in compare_signs sign.now }
 {
-    number(&COMPARE_SIGNS, sign)
+    number_beside(&COMPARE_SIGNS, sign)
 }
 
 /// The name of the class of that number, if there is one.
@@ -198,7 +198,7 @@ pub fn class_name(n: u8) -> Option<&'static [u8]>
 pub fn class_number(name: &[u8]) -> Option<u8>
     ensures { result ≡ number_in class_names name.now }
 {
-    number(&CLASS_NAMES, name)
+    number_beside(&CLASS_NAMES, name)
 }
 
 /// The name of the builtin of that number, if there is one.
@@ -212,5 +212,5 @@ pub fn builtin_name(n: u8) -> Option<&'static [u8]>
 pub fn builtin_number(name: &[u8]) -> Option<u8>
     ensures { result ≡ number_in builtin_names name.now }
 {
-    number(&BUILTIN_NAMES, name)
+    number_beside(&BUILTIN_NAMES, name)
 }

@@ -1,2 +1,2 @@
-pub mod Labels
+mod Labels
 pub mod RightRows

@@ -60,9 +60,6 @@ cells_of (r ∷ rs) = cells_by r.kind r.bytes (cells_of rs)
 abbrev pub names_of : List Root → List (List ℕ)
 names_of rs = drop 1 (cells_of rs)
 
-abbrev pub has : List ℕ → List (List ℕ) → Bool
-has x xs = list_any (bytes_eq x) xs
-
 -- each of these names differs from those before it
 abbrev pub differ : List (List ℕ) → List (List ℕ) → Bool
 differ before [] = true

@@ -22,7 +22,8 @@ use Rattle.py_tree.specs.declared.stmt.Stmt.{Stmt}
 use Rattle.py_tree.specs.declared.stmt.Module.{Module}
 use Rattle.py_compile.specs.Template.{Op, Sub}
 use Rattle.py_compile.specs.Names.{Known, number_in, text, main_texts}
-use Rattle.py_names.specs.Outline.{has, is_none}
+use Rattle.py_base.specs.NameLists.{has}
+use Rattle.py_names.specs.Outline.{is_none}
 use Rattle.py_compile.specs.Uses.{Use, Text, Global, Keys, module_uses}
 use Rattle.py_compile.specs.Statements.{Body, stated_block}
 use Rattle.py_compile.proofs.Legal.{legal_all}

@@ -10,7 +10,8 @@ use Rattle.py_compile.specs.declared.home.Home.{Home}
 use Rattle.py_compile.specs.declared.home.Home.TheVariants.{Slot, Cell, Body}
 use Rattle.py_compile.specs.Table.{load, store, del}
 use Rattle.py_compile.specs.Names.{Known, find_name, text, cell, home_at, home, key_list}
-use Rattle.py_names.specs.Outline.{has, is_none}
+use Rattle.py_base.specs.NameLists.{has}
+use Rattle.py_names.specs.Outline.{is_none}
 use Rattle.py_compile.specs.Uses.{Use, Text, Global, Keys, Inside, own_read, own_bound, name_read, name_bound}
 use Rattle.py_compile.proofs.ExprInduct.{Every}
 

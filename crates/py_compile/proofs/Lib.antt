@@ -1,60 +1,60 @@
-pub mod PlanBounds
-pub mod Typed
-pub mod Ops
-pub mod Values
-pub mod Blocks
-pub mod Constructs
-pub mod Emits
-pub mod RowsEqual
-pub mod Deletions
-pub mod Program
-pub mod Examples
-pub mod Coded
-pub mod Rests
-pub mod WorkedRows
-pub mod Arms
-pub mod Used
-pub mod Tallying
-pub mod UsedStatements
-pub mod Compiled
-pub mod Compiling
-pub mod Steps
-pub mod TaskWeights
-pub mod Plans
-pub mod PlanWeights
-pub mod Stateds
-pub mod StmtArms
-pub mod Leaves
-pub mod Gathers
-pub mod Sane
-pub mod Legal
-pub mod ExprInduct
-pub mod StmtInduct
-pub mod SaneRows
-pub mod Homes
-pub mod KeyNumbers
-pub mod ExprTyped
-pub mod World
-pub mod StmtSimple
-pub mod FoldInduct
-pub mod UsesInTurn
-pub mod StmtTyped
-pub mod Numbers
-pub mod CodesRight
-pub mod RootsMade
-pub mod Sits
-pub mod Clean
-pub mod StmtClean
-pub mod BelongRows
-pub mod Assembled
-pub mod LegalRows
-pub mod Clear
-pub mod OrdinaryEvents
-pub mod Begun
-pub mod OnceNames
-pub mod ParamNames
-pub mod ParamSlots
-pub mod NoneFree
-pub mod LegalExprs
-pub mod LegalStmts
-pub mod ProgramRight
+mod PlanBounds
+mod Typed
+mod Ops
+mod Values
+mod Blocks
+mod Constructs
+mod Emits
+mod RowsEqual
+mod Deletions
+mod Program
+mod Examples
+mod Coded
+mod Rests
+mod WorkedRows
+mod Arms
+mod Used
+mod Tallying
+mod UsedStatements
+mod Compiled
+mod Compiling
+mod Steps
+mod TaskWeights
+mod Plans
+mod PlanWeights
+mod Stateds
+mod StmtArms
+mod Leaves
+mod Gathers
+mod Sane
+mod Legal
+mod ExprInduct
+mod StmtInduct
+mod SaneRows
+mod Homes
+mod KeyNumbers
+mod ExprTyped
+mod World
+mod StmtSimple
+mod FoldInduct
+mod UsesInTurn
+mod StmtTyped
+mod Numbers
+mod CodesRight
+mod RootsMade
+mod Sits
+mod Clean
+mod StmtClean
+mod BelongRows
+mod Assembled
+mod LegalRows
+mod Clear
+mod OrdinaryEvents
+mod Begun
+mod OnceNames
+mod ParamNames
+mod ParamSlots
+mod NoneFree
+mod LegalExprs
+mod LegalStmts
+mod ProgramRight

@@ -8,7 +8,8 @@ use Rattle.py_tree.specs.declared.stmt.Module.{Module}
 use Rattle.py_names.specs.declared.event.Event.{Event}
 use Rattle.py_names.specs.declared.event.Event.TheVariants.{Enter, Takes, Binds}
 use Rattle.py_names.specs.declared.event.BodyKind.TheVariants as kind
-use Rattle.py_names.specs.Outline.{is_none, has, with_name, label, repeated, read_some, parameters, takes, outline}
+use Rattle.py_base.specs.NameLists.{has, with_name}
+use Rattle.py_names.specs.Outline.{is_none, label, repeated, read_some, parameters, takes, outline}
 use Rattle.py_names.specs.Scopes.{placed, inside_after, bodies_after, is_first, said_in, binding, is_module, kind_of, scope_of, body, fault}
 use Rattle.py_names.specs.ScopeLaws.{names_it, binds, declares}
 use Rattle.py_names.proofs.ScopeLemmas.{local_law}

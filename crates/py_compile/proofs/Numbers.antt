@@ -10,7 +10,7 @@ use Rattle.std.proofs.lemmas.List.{get_or-map, length-map}
 use Rattle.std.proofs.lemmas.List.Folds.{list_any-append}
 use Rattle.std.proofs.lemmas.Slice.Eq.{bytes_eq-Decides}
 use Rattle.py_compile.specs.Names.{number_in, text, same_names, list_number}
-use Rattle.py_names.specs.Outline.{has, with_name}
+use Rattle.py_base.specs.NameLists.{has, with_name}
 use Rattle.py_compile.specs.Uses.{Use, Text, Global, Keys, with_keys, texts_from, cells_from, keys_from}
 use Rattle.py_compile.proofs.ExprInduct.{Every}
 use Rattle.py_compile.proofs.Homes.{any_place, KeysFit}

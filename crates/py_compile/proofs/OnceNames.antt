@@ -7,7 +7,7 @@ use Rattle.std.proofs.lemmas.Cmp.{nat_list_eq_equiv}
 use Rattle.std.proofs.lemmas.Option.{slice_get_within}
 use Rattle.py_names.specs.declared.scope.Scope.{Scope}
 use Rattle.py_names.specs.declared.event.Event.{Event}
-use Rattle.py_names.specs.Outline.{has, with_name}
+use Rattle.py_base.specs.NameLists.{has, with_name}
 use Rattle.py_names.specs.Scopes.{AreScopes, said_in, placed}
 use Rattle.py_names.proofs.ScopeLemmas.{locals_once}
 use Rattle.py_compile.specs.inner.Bodies.{NamedOnce}

@@ -11,7 +11,8 @@ use Rattle.std.proofs.lemmas.Map.Made.{length-le_from_is_member}
 use Rattle.std.proofs.lemmas.Slice.Eq.{bytes_eq-Decides}
 use Rattle.py_tree.specs.declared.stmt.Param.{Param}
 use Rattle.py_names.specs.declared.event.Event.TheVariants.{Doubled}
-use Rattle.py_names.specs.Outline.{has, with_name, label, repeated, read_some, parameters}
+use Rattle.py_base.specs.NameLists.{has, with_name}
+use Rattle.py_names.specs.Outline.{label, repeated, read_some, parameters}
 use Rattle.py_compile.proofs.Clear.{Clears, clear_front, clear_back}
 
 same_name : IsEquivalence bytes_eq

@@ -18,7 +18,8 @@ use Rattle.py_names.specs.declared.event.Event.TheVariants.{Enter, Takes, Declar
 use Rattle.py_names.specs.declared.event.BodyKind.{BodyKind}
 use Rattle.py_names.specs.declared.event.BodyKind.TheVariants as kind
 use Rattle.py_names.specs.declared.scope.Scope.{Scope}
-use Rattle.py_names.specs.Outline.{has, takes, parameters, outline}
+use Rattle.py_base.specs.NameLists.{has}
+use Rattle.py_names.specs.Outline.{takes, parameters, outline}
 use Rattle.py_names.specs.Scopes.{Names, inside_after, bodies_after, placed, bodies as body_count, is_first, said_in, parameter, binding, declaration, kind_after, kind_of, is_module, scope_of, body, AreScopes, is_parameter, refused, first_fault, fault}
 use Rattle.py_names.specs.ScopeLaws.{names_it, binds, declares}
 use Rattle.py_names.specs.Resolves.{Resolves}

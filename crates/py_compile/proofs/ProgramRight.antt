@@ -7,7 +7,8 @@ use Rattle.py_code.specs.declared.program.Program.{Program}
 use Rattle.py_code.specs.Right.{IsRightProgram}
 use Rattle.py_tree.specs.declared.stmt.Module.{Module}
 use Rattle.py_names.specs.declared.scope.Scope.{Scope}
-use Rattle.py_names.specs.Outline.{has, is_none, outline}
+use Rattle.py_base.specs.NameLists.{has}
+use Rattle.py_names.specs.Outline.{is_none, outline}
 use Rattle.py_names.specs.Resolves.{Resolves}
 use Rattle.py_names.specs.Scopes.{bodies}
 use Rattle.py_compile.specs.Compiles.{Compiles, bound_in}

@@ -6,12 +6,12 @@ use Rattle.std.specs.Str.{bytes_eq}
 use Rattle.std.proofs.lemmas.Bool.{ltb-false, or_parts}
 use Rattle.std.proofs.lemmas.List.Elements.{All-nil, All-cons, All-append}
 use Rattle.std.proofs.lemmas.List.Folds.{list_any-append}
-use Rattle.py_code.specs.Right.{HasRoots, differ, has, own_name, main_name, roots_of}
+use Rattle.py_code.specs.Right.{HasRoots, differ, own_name, main_name, roots_of}
 use Rattle.py_code.proofs.RightRows.{texts_told, names_told}
 use Rattle.py_tree.specs.declared.stmt.Stmt.{Stmt}
 use Rattle.py_compile.specs.Names.{main_texts}
 use Rattle.py_compile.specs.Uses.{Use, Text, Global, Keys, cells_from}
-use Rattle.py_names.specs.Outline.{with_name}
+use Rattle.py_base.specs.NameLists.{has, with_name}
 use Rattle.py_compile.specs.Whole as whole
 
 -- names that are put in once differ

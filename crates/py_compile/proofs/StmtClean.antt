@@ -16,7 +16,8 @@ use Rattle.py_compile.specs.declared.around.Way.TheVariants.{Break, Continue, Ou
 use Rattle.py_compile.specs.Template.{Piece, Op, Hidden, To, Here, Alone, Sub, template, row}
 use Rattle.py_compile.specs.Table.{A, B, E, H, M, Around, InWhile, InFor, InTry, InClause, InFinally, all_arms, while, for, def, class, print_one, import_one, way_out, return, raise_again, store}
 use Rattle.py_compile.specs.Names.{Known, home, text, library, member}
-use Rattle.py_names.specs.Outline.{has, is_none}
+use Rattle.py_base.specs.NameLists.{has}
+use Rattle.py_names.specs.Outline.{is_none}
 use Rattle.py_compile.specs.Expressions.{coded, add_at, operator, value, values, value_some, stored, all_stored, all_deleted}
 use Rattle.py_compile.specs.Uses.{Use, Inside, Uses, quiet, in_turn, none_used, all_in_turn, body_used, name_bound, read, target, read_all, target_all, read_some, target_some, read_defaults, stmt_uses}
 use Rattle.py_compile.specs.Statements.{Body, Stated, Armed, Claused, Handled, still, block, count, pieces, inners, armed, armed_count, armed_inner, handled, handled_count, handled_inner, clause, tried, finally, inner_body, base, default_or, defaults, stores_before, last_target, assigned, printed, raised, asserted, imported, taken_from, deletion, bound_name, stated, all_stated}

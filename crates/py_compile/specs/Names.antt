@@ -6,7 +6,7 @@ use Rattle.py_base.specs.Numbers.{builtin_number, class_number}
 use Rattle.py_code.specs.declared.instr.Constant.{Constant}
 use Rattle.py_code.specs.declared.instr.Constant.TheVariants.{Root, Builtin}
 use Rattle.py_code.specs.Right.{first_text}
-use Rattle.py_names.specs.Outline.{has}
+use Rattle.py_base.specs.NameLists.{has}
 use Rattle.py_compile.specs.declared.home.Home.{Home}
 use Rattle.py_compile.specs.declared.home.Home.TheVariants.{Slot, Cell, Body}
 

@@ -12,7 +12,8 @@ use Rattle.py_tree.specs.declared.stmt.Imported.{Imported}
 use Rattle.py_tree.specs.declared.stmt.Stmt.TheOpen as open2
 use Rattle.py_tree.specs.declared.stmt.Stmt.TheFolds.{fold-Stmt}
 use Rattle.py_compile.specs.Names.{same_names}
-use Rattle.py_names.specs.Outline.{has, is_none, with_name}
+use Rattle.py_base.specs.NameLists.{has, with_name}
+use Rattle.py_names.specs.Outline.{is_none}
 use Rattle.py_compile.specs.Statements.{bound_name}
 
 -- A string, a global name, or the keyword list of a call in the body with that number; without keywords it is empty.

@@ -6,8 +6,7 @@ ghost use Rattle.py_compile.specs.Uses.{cells_from, import_use, module_uses, rea
 use crate::simple::bound_name;
 use crate::tally::{Place, Tally};
 use crate::uses::{Role, expression, expressions, some};
-use py_base::{NoMemory, split};
-use py_names::NameSet;
+use py_base::{NameSet, NoMemory, split};
 use py_tree::{Arm, Clause, Handler, Imported, Param, Stmt};
 use std::alloc::Global;
 

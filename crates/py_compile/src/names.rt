@@ -5,7 +5,7 @@ ghost use Rattle.py_compile.specs.Names.{cell, first_cell, home, key_list, numbe
 
 use crate::home::Home;
 use crate::key_set::KeySet;
-use py_names::NameSet;
+use py_base::NameSet;
 use py_tree::Named;
 use std::marker::Model;
 

@@ -4,9 +4,8 @@ ghost use Rattle.py_base.specs.Numbers.{class_count};
 ghost use Rattle.py_compile.specs.Whole.{roots_with};
 ghost use Rattle.py_code.specs.Right.{cell_root, class_roots};
 
-use py_base::{Bytes, Kind, NoMemory, exception};
+use py_base::{Bytes, Kind, NameSet, NoMemory, exception};
 use py_code::{Root, Roots};
-use py_names::NameSet;
 use std::alloc::Global;
 
 fn root(kind: Kind, number: u8, bytes: Bytes) -> Root

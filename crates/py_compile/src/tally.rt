@@ -1,14 +1,13 @@
 //! What a module uses of strings, global names and keyword lists, as it is gathered.
 ghost use Rattle.std.specs.Prelude.{◌≡◌, ◌<◌, ◌∷◌, [], get_or, length, replicate, IfOk, OnOk};
 ghost use Rattle.py_compile.specs.Expressions.{key_names};
-ghost use Rattle.py_names.specs.Outline.{has};
+ghost use Rattle.py_base.specs.NameLists.{has};
 ghost use Rattle.py_compile.specs.inner.Tallies.{bump, inside, tally};
 ghost use Rattle.py_compile.specs.Uses.{Keys, Text, name_bound, name_read};
 
 use crate::expression::is_none;
 use crate::key_set::KeySet;
-use py_base::NoMemory;
-use py_names::NameSet;
+use py_base::{NameSet, NoMemory};
 use py_tree::Named;
 use std::alloc::{AllocError, Global};
 use std::marker::Model;

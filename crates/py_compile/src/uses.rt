@@ -4,8 +4,7 @@ ghost use Rattle.py_compile.specs.inner.Tallies.{inside, read_links, read_named,
 ghost use Rattle.py_compile.specs.Uses.{read_some, used_trailer};
 
 use crate::tally::{Place, Tally};
-use py_base::{NoMemory, split};
-use py_names::NameSet;
+use py_base::{NameSet, NoMemory, split};
 use py_tree::{Expr, Link, Named, Pair, Trailer};
 use sqlite_items::Boxed;
 

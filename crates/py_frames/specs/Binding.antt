@@ -11,7 +11,7 @@ use Rattle.py_data.specs.Looking.{look_row}
 use Rattle.py_data.specs.Row.{Row, Ret, bind}
 use Rattle.py_code.specs.declared.program.Code.{Code}
 use Rattle.py_code.specs.declared.program.Program.{Program}
-use Rattle.py_code.specs.Right.{has}
+use Rattle.py_base.specs.NameLists.{has}
 use Rattle.py_frames.specs.declared.state.Frame.{Frame}
 use Rattle.py_frames.specs.State.{code_at, root_name}
 use Rattle.py_frames.specs.Raising.{place_in, count_in, values_row}

@@ -1,6 +1,6 @@
 //! Parameters and the keywords of a call.
 ghost use Rattle.std.specs.Prelude.{◌≡◌, ◌++◌, map, OnOk, IfOk};
-ghost use Rattle.py_code.specs.Right.{has};
+ghost use Rattle.py_base.specs.NameLists.{has};
 ghost use Rattle.py_frames.specs.Binding as binding;
 ghost use Rattle.py_frames.specs.State as state;
 

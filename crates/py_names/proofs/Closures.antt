@@ -3,7 +3,7 @@ use Rattle.std.proofs.Common.{◌≡◌, ℕ, Bool, true, false, not, ◌&&◌, 
 use Rattle.std.specs.List.{list_any}
 use Rattle.std.proofs.lemmas.List.{reverse-append}
 use Rattle.std.proofs.lemmas.List.Folds.{list_any-append}
-use Rattle.py_names.specs.Outline.{has}
+use Rattle.py_base.specs.NameLists.{has}
 use Rattle.py_names.specs.Scopes.{Names, is_function, is_local, is_closure}
 
 or-turned : (a b : Bool) → (a || (b || false)) ≡ (b || a)

@@ -16,7 +16,8 @@ use Rattle.py_names.specs.declared.expression.Role.{Role}
 use Rattle.py_names.specs.declared.expression.Role.TheVariants.{Read, Target}
 use Rattle.py_names.specs.inner.Roles.{told}
 use Rattle.py_names.specs.declared.event.Event.{Event}
-use Rattle.py_names.specs.Outline.{joined, used_name, bound_name, with_name, label, repeated, Said, plain, reads, targets, keywords, expr_step, trailer_step, link_step, named_step, pair_step, said, said_trailer, read, target, read_all, target_all, read_some, read_links, read_pairs, read_trailers, read_keywords}
+use Rattle.py_base.specs.NameLists.{with_name}
+use Rattle.py_names.specs.Outline.{joined, used_name, bound_name, label, repeated, Said, plain, reads, targets, keywords, expr_step, trailer_step, link_step, named_step, pair_step, said, said_trailer, read, target, read_all, target_all, read_some, read_links, read_pairs, read_trailers, read_keywords}
 
 link : ℕ → Link → List Event
 link line = fold-Link Said (List Event) (List Event) (List ℕ × Said) (List Event) (expr_step line) (trailer_step line)

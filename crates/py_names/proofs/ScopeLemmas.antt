@@ -9,7 +9,7 @@ use Rattle.std.proofs.lemmas.Slice.Eq.{bytes_eq-Decides}
 use Rattle.py_names.specs.declared.event.Event.{Event}
 use Rattle.py_names.specs.declared.event.Event.TheVariants.{Enter, Leave, Takes, Uses, Binds, Declares, Misplaced, Doubled}
 use Rattle.py_names.specs.declared.event.BodyKind.TheVariants.{Module}
-use Rattle.py_names.specs.Outline.{has, with_name}
+use Rattle.py_base.specs.NameLists.{has, with_name}
 use Rattle.py_names.specs.Scopes.{noted, noted_all, mention, binding, declaration, kind_of, is_module, no_names, names_from, is_local, is_global, scope_of}
 use Rattle.py_names.specs.ScopeLaws.{names_it, mentions, binds, declares, is_own}
 

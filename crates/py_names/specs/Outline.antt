@@ -29,13 +29,6 @@ use Rattle.py_names.specs.declared.event.Event.TheVariants.{Enter, Leave, Takes,
 abbrev pub is_none : List ℕ → Bool
 is_none n = bytes_eq n (codes "None")
 
-abbrev pub has : List ℕ → List (List ℕ) → Bool
-has n ns = list_any (bytes_eq n) ns
-
--- these names with one more, each once, where it is first
-abbrev pub with_name : List (List ℕ) → List ℕ → List (List ℕ)
-with_name ns n = if has n ns then ns else ns ++ n ∷ []
-
 -- what stands one after another
 abbrev pub joined : List (List Event) → List Event
 joined [] = []

@@ -8,7 +8,7 @@ use Rattle.py_names.specs.declared.event.BodyKind.TheVariants.{Module, Function}
 use Rattle.py_names.specs.declared.event.Event.{Event}
 use Rattle.py_names.specs.declared.event.Event.TheVariants.{Enter, Leave, Takes, Uses, Binds, Declares, Misplaced, Doubled}
 use Rattle.py_names.specs.declared.scope.Scope.{Scope}
-use Rattle.py_names.specs.Outline.{has, with_name}
+use Rattle.py_base.specs.NameLists.{has, with_name}
 
 -- ---- bodies
 

@@ -1,7 +1,7 @@
 //! The earliest place that is refused.
 ghost use Rattle.std.specs.Prelude.{◌≡◌, ◌+◌, ◌<◌, ◌^◌, ◌&&◌, ◌∷◌, [], length, IfOk, OnOk};
 ghost use Rattle.std.specs.List.{list_any};
-ghost use Rattle.py_names.specs.Outline.{has};
+ghost use Rattle.py_base.specs.NameLists.{has};
 ghost use Rattle.py_names.specs.Scopes.{bodies_after, first_fault, inside_after, is_closure, is_function, is_local, is_parameter, placed, refused};
 ghost use Rattle.py_names.specs.inner.Tables.{at};
 

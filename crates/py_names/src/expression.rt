@@ -3,9 +3,8 @@ ghost use Rattle.std.specs.Prelude.{◌≡◌, ◌++◌, ◌∷◌, [], MatchOpt
 ghost use Rattle.py_names.specs.Outline.{read_keywords, read_links, read_pairs, read_some, read_trailers, said_trailer};
 ghost use Rattle.py_names.specs.inner.Roles.{told, told_all};
 
-use crate::names::NameSet;
 use crate::outline::Outline;
-use py_base::{NoMemory, split};
+use py_base::{NameSet, NoMemory, split};
 use py_tree::{Expr, Link, Named, Pair, Trailer};
 use sqlite_items::Boxed;
 

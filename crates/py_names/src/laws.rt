@@ -4,7 +4,7 @@ ghost use Rattle.std.specs.Prelude.{◌≡◌, ℕ, List, ◌&&◌, not};
 ghost use Rattle.std.specs.List.{IsDistinct};
 ghost use Rattle.std.specs.Str.{bytes_eq};
 ghost use Rattle.py_names.specs.declared.event.Event.{Event};
-ghost use Rattle.py_names.specs.Outline.{has};
+ghost use Rattle.py_base.specs.NameLists.{has};
 ghost use Rattle.py_names.specs.Scopes.{no_names, names_from, scope_of};
 ghost use Rattle.py_names.specs.ScopeLaws.{mentions, is_own};
 

@@ -8,7 +8,6 @@ mod event;
 mod expression;
 mod gather;
 mod laws;
-mod names;
 mod nest;
 mod outline;
 mod resolver;
@@ -18,6 +17,5 @@ mod table;
 
 pub use error::NameFault;
 pub use laws::scope_law;
-pub use names::NameSet;
 pub use resolver::resolve;
 pub use scope::{Scope, Scopes, Texts};

@@ -4,8 +4,7 @@ ghost use Rattle.std.specs.Str.{bytes_eq};
 ghost use Rattle.py_names.specs.Outline.{is_none, used_name, bound_name, declared_name, label, repeated, only_where};
 
 use crate::event::Event;
-use crate::names::NameSet;
-use py_base::{Bytes, NoMemory};
+use py_base::{Bytes, NameSet, NoMemory};
 use sqlite_items::Items;
 use std::alloc::Global;
 use std::marker::Model;

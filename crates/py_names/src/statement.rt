@@ -7,9 +7,8 @@ ghost use Rattle.py_names.specs.inner.Roles.{told_some};
 
 use crate::event::{BodyKind, Event};
 use crate::expression::{Role, expression, expressions};
-use crate::names::NameSet;
 use crate::outline::Outline;
-use py_base::{Bytes, NoMemory, split};
+use py_base::{Bytes, NameSet, NoMemory, split};
 use py_tree::{Arm, Clause, Expr, Handler, Imported, Param, Stmt};
 
 /// Where a statement stands.

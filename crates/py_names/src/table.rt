@@ -1,11 +1,10 @@
 //! What each body says of names.
 ghost use Rattle.std.specs.Prelude.{◌≡◌, map, OnOk};
-ghost use Rattle.py_names.specs.Outline.{has};
+ghost use Rattle.py_base.specs.NameLists.{has};
 ghost use Rattle.py_names.specs.Scopes.{is_function, is_local, names_after, no_names};
 
 use crate::event::{BodyKind, Event};
-use crate::names::NameSet;
-use py_base::NoMemory;
+use py_base::{NameSet, NoMemory};
 use std::alloc::Global;
 use std::marker::Model;
 

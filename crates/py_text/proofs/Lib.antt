@@ -1,3 +1,3 @@
-pub mod Digits
-pub mod Spelling
+mod Digits
+mod Spelling
 pub mod Quoted

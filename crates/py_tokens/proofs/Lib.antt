@@ -1,9 +1,9 @@
-pub mod CharacterLemmas
-pub mod Digits
+mod CharacterLemmas
+mod Digits
 pub mod Stacks
 pub mod Laying
-pub mod Loop
+mod Loop
 pub mod InOrder
 pub mod Streams
-pub mod Whole
-pub mod LayoutRows
+mod Whole
+mod LayoutRows

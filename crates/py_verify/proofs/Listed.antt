@@ -7,7 +7,8 @@ use Rattle.std.proofs.lemmas.List.Elements.{All-nil, All-cons, All-head, All-tai
 use Rattle.py_base.specs.declared.kind.Kind.{Kind}
 use Rattle.py_base.specs.declared.kind.Kind.TheVariants.{Str, Tuple, List as ListKind, Dict, Cell, Function, Class, Instance, Method, Iter as IterKind, Range, Lock, Thread}
 use Rattle.py_code.specs.declared.program.Root.{Root}
-use Rattle.py_code.specs.Right.{cell_root, cells_of, class_root, class_roots, differ, has, HasRoots, main_name, names_of, own_name, roots_of, text_root, texts_by, texts_of}
+use Rattle.py_base.specs.NameLists.{has}
+use Rattle.py_code.specs.Right.{cell_root, cells_of, class_root, class_roots, differ, HasRoots, main_name, names_of, own_name, roots_of, text_root, texts_by, texts_of}
 use Rattle.py_verify.specs.inner.Tests.{any_long, are_cells, are_classes, are_roots, are_texts, is_cell_by, is_class_by, is_empty, is_long_by, is_text_by, IsFormed}
 
 abbrev root : Kind → ℕ → List ℕ → Root

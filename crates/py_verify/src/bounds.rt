@@ -28,8 +28,13 @@ impl<'a> Model for Bounds<'a> {
     ghost Value = { Limits };
 
     ghost view = { λ b. record {
-        slots = length b.code.now.slots; keys = b.code.now.keys; strings = first_text; cells = b.cells;
-        roots = b.roots; params = map (λ x. x.params) b.codes.now; first = b.first
+      slots = length b.code.now.slots;
+      keys = b.code.now.keys;
+      strings = first_text;
+      cells = b.cells;
+      roots = b.roots;
+      params = map (λ x. x.params) b.codes.now;
+      first = b.first;
     } };
 }
 
@@ -44,8 +49,13 @@ impl<'a> Bounds<'a> {
         first: usize,
     ) -> Bounds<'a>
         ensures { result ≡ record {
-            slots = length code.now.slots; keys = code.now.keys; strings = first_text; cells = cells;
-            roots = roots; params = map (λ x. x.params) codes.now; first = first
+          slots = length code.now.slots;
+          keys = code.now.keys;
+          strings = first_text;
+          cells = cells;
+          roots = roots;
+          params = map (λ x. x.params) codes.now;
+          first = first;
         } }
     {
         Bounds {

@@ -7,12 +7,11 @@ ghost use Rattle.py_code.specs.Right.{AreRight, Belongs, first_place, HasCellAt,
 
 use crate::bounds::{Bounds, FIRST_TEXT};
 use crate::effect::effect_in;
-use crate::names::NameSet;
 use crate::roots::count_texts;
 use crate::setup::{first_place, sets_up};
 use crate::typing::is_right;
 use indexmap::IndexSet;
-use py_base::{Kind, NoMemory, split};
+use py_base::{Kind, NameSet, NoMemory, split};
 use py_code::{Code, Instr, Root};
 use std::alloc::Global;
 use std::marker::Model;

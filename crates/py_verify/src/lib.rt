@@ -5,7 +5,6 @@ mod bodies;
 mod bounds;
 mod context;
 mod effect;
-mod names;
 mod roots;
 mod setup;
 mod shape;

@@ -1,11 +1,11 @@
 //! The tests of a list of roots.
 ghost use Rattle.std.specs.Prelude.{◌≡◌, ◌+◌, ◌≤◌, ◌∷◌, [], false, true, IfOk, length, MatchOption, option_map, None, Some, IsTrue, ◌↔◌};
 ghost use Rattle.std.specs.List.{last_or};
-ghost use Rattle.py_code.specs.Right.{cells_of, differ, has, HasRoots, main_name, names_of, own_name, texts_of};
+ghost use Rattle.py_base.specs.NameLists.{has};
+ghost use Rattle.py_code.specs.Right.{cells_of, differ, HasRoots, main_name, names_of, own_name, texts_of};
 ghost use Rattle.py_verify.specs.inner.Tests.{any_long, are_cells, are_classes, are_roots, are_texts, is_cell_by, is_class_by, is_empty, is_long_by, is_text_by, IsFormed};
 
-use crate::names::NameSet;
-use py_base::{Kind, NoMemory, exception, split};
+use py_base::{Kind, NameSet, NoMemory, exception, split};
 use py_code::Root;
 use std::alloc::Global;
 
@@ -175,7 +175,7 @@ fn names_in<'a>(alloc: Global, roots: &'a [Root]) -> Result<Option<NameSet<'a>>,
             if names.has(r.bytes.as_slice()) {
                 return Ok(None);
             }
-            names.add(r.bytes.as_slice())?;
+            names.note(r.bytes.as_slice())?;
         }
         rest = more;
     }

@@ -14,7 +14,7 @@ use Rattle.py_compile.specs.declared.uses.Role.{Role}
 use Rattle.py_compile.specs.declared.uses.Role.TheVariants.{Read, Target}
 use Rattle.py_compile.specs.declared.tally.Place.{Place}
 use Rattle.py_compile.specs.Uses.{Use, Text, Global, Keys, Inside, Uses, with_keys, read, target, read_all, target_all, read_some, target_some, used_trailer, in_turn, none_used, stmt_uses, keys_from, quiet}
-use Rattle.py_names.specs.Outline.{with_name}
+use Rattle.py_base.specs.NameLists.{with_name}
 
 -- The lists, and the number of the next body.
 pub record Tally : Type 0 where

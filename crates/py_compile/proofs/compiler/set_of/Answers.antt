@@ -1,5 +1,5 @@
 use Rattle.std.proofs.Common.{ap, ◌∙◌}
-use Rattle.py_names.specs.Outline.{with_name}
+use Rattle.py_base.specs.NameLists.{with_name}
 use Rattle.py_compile.proofs.OnceNames.{one_more}
 use Rattle.py_compile.proofs.compiler.set_of.Goals as goal
 

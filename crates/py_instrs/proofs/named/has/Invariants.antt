@@ -1,5 +1,5 @@
 use Rattle.std.proofs.Common.{◌≡◌, length}
-use Rattle.py_code.specs.Right.{has}
+use Rattle.py_base.specs.NameLists.{has}
 use Rattle.py_instrs.proofs.named.has.Given as goal
 
 abbrev pub invariant-names : goal.invariant-names

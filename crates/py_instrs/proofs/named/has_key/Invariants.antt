@@ -1,5 +1,5 @@
 use Rattle.std.proofs.Common.{◌≡◌, length, map}
-use Rattle.py_code.specs.Right.{has}
+use Rattle.py_base.specs.NameLists.{has}
 use Rattle.py_frames.specs.State.{root_name}
 use Rattle.py_instrs.proofs.named.has_key.Given as goal
 

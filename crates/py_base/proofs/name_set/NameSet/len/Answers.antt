@@ -1,5 +1,5 @@
 use Rattle.py_base.proofs.NameLists.{shown_len}
-use Rattle.py_names.proofs.names.NameSet.len.Goals as goal
+use Rattle.py_base.proofs.name_set.NameSet.len.Goals as goal
 
 pub returns : goal.returns
 returns c = shown_len (λ k. k.now) c.self.inside.set.keys c.args.self.now _ c.len.ensures.len c.self.view_is

@@ -1,10 +1,10 @@
 //! Lists of names without repetition.
 ghost use Rattle.std.specs.Prelude.{◌≡◌, ◌<◌, [], length, map, position, IfSome, OnOk, OnErr};
 ghost use Rattle.std.specs.Str.{bytes_eq};
-ghost use Rattle.py_names.specs.Outline.{has, with_name};
+ghost use Rattle.py_base.specs.NameLists.{has, with_name};
 
+use crate::NoMemory;
 use indexmap::IndexSet;
-use py_base::NoMemory;
 use std::alloc::Global;
 use std::marker::Model;
 

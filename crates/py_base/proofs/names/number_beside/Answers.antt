@@ -1,6 +1,6 @@
 use Rattle.std.proofs.Common.{sym, ◌∙◌}
 use Rattle.py_base.proofs.Numbering.{is_found, goes_on}
-use Rattle.obj_class.proofs.named.number.Goals as goal
+use Rattle.py_base.proofs.names.number_beside.Goals as goal
 
 pub returns-then-eq : goal.returns-then-eq
 returns-then-eq c = is_found c.args.table.now c.args.name.now c.loop-entry.entry-index _ c.loop-entry-test.true

@@ -1,6 +1,6 @@
 use Rattle.std.specs.Str.{bytes_eq}
 use Rattle.py_base.proofs.NameLists.{shown_names}
-use Rattle.py_names.proofs.names.NameSet.note.Goals as goal
+use Rattle.py_base.proofs.name_set.NameSet.note.Goals as goal
 
 pub returns-clause-names : goal.returns-clause-names
 returns-clause-names c = shown_names (λ k. k.now) (bytes_eq c.args.name.now) c.self.inside.set.keys _ c.args.name
