@@ -13,7 +13,7 @@ use Rattle.py_data.specs.Heap.{Heap, Rec, at, put_at, new_rec, value_at, is_trac
 use Rattle.py_data.specs.Changes.{after, IsValuePlace}
 use Rattle.py_data.specs.Row.{Read, Edit, Make}
 use Rattle.py_data.specs.Sense.{Sense, Bracket, Lawful, IsBracket, IsLive, IfThere, Asks, Answers, Shows}
-use Rattle.py_data.proofs.Steps.{put-here, at-is, there-is, asks-edit}
+use Rattle.py_data.proofs.Steps.{put_here, at_is, there_is, asks_edit}
 use Rattle.bench_cases.specs.Holds.{HoldsRecord, Holds}
 
 module _ {S X : Type 0} {u : Sense S X} (L : Lawful u) where
@@ -23,7 +23,7 @@ module _ {S X : Type 0} {u : Sense S X} (L : Lawful u) where
   put_in k a n r h w live e kind long = record {
     live = live;
     r = r;
-    is = ap (λ g. g a) e ∙ put-here h a r;
+    is = ap (λ g. g a) e ∙ put_here h a r;
     kind =
         kind;
     long = long;
@@ -48,12 +48,12 @@ module _ {S X : Type 0} {u : Sense S X} (L : Lawful u) where
       let e = L.effect (Edit a c) v x w did in
       let p = keeps h.r h.kind h.long in
       put_in k a m (after c h.r) (u.heap v) w (L.live (Edit a c) v x w did)
-      (e.1 ∙ ap (λ r. put_at (u.heap v) a (after c r)) (at-is (u.heap v) a h.r h.is)) p.0 p.1
+      (e.1 ∙ ap (λ r. put_at (u.heap v) a (after c r)) (at_is (u.heap v) a h.r h.is)) p.0 p.1
   changed k a n m c v w (Err e) h keeps did = tt
 
   pub push_asks : (a n : ℕ) (x : Value) (v : X) → n < 1_048_576 → HoldsRecord u ListKind a n v →
       Asks {S = S} u.partial (Edit a (Push x)) (u.heap v)
-  push_asks a n x v l h = asks-edit S u.partial (u.heap v) a h.r (Push x) h.is (h.kind, let e = h.long in omega arith)
+  push_asks a n x v l h = asks_edit S u.partial (u.heap v) a h.r (Push x) h.is (h.kind, let e = h.long in omega arith)
       tt
 
   pub pushed : (a n : ℕ) (x : Value) (v w : X) (res : Result (Unit {0}) Stop) → HoldsRecord u ListKind a n v →
@@ -64,7 +64,7 @@ module _ {S X : Type 0} {u : Sense S X} (L : Lawful u) where
   pub set_asks : (a n place : ℕ) (x : Value) (v : X) → place < n → HoldsRecord u Dict a (2 * n) v →
       Asks {S = S} u.partial (Edit a (Set (2 * place + 1) x)) (u.heap v)
   set_asks a n place x v l h =
-      asks-edit S u.partial (u.heap v) a h.r (Set (2 * place + 1) x) h.is
+      asks_edit S u.partial (u.heap v) a h.r (Set (2 * place + 1) x) h.is
       (ap is_tracked h.kind, let e = h.long in omega arith)
       (subst (λ k. IsValuePlace k (2 * place + 1)) (sym h.kind) (place, refl))
 
@@ -73,7 +73,7 @@ module _ {S X : Type 0} {u : Sense S X} (L : Lawful u) where
   was_set a n i x v w res h did = changed Dict a n n (Set i x) v w res h (λ r k l. (k, length-set r.values i x ∙ l)) did
 
   pub val_asks : (a n i : ℕ) (v : X) → i < n → Holds u a n v → IfThere u.partial (u.heap v a) (λ r. i < length r.values)
-  val_asks a n i v l h = there-is (u.heap v) a h.1.r u.partial (λ r. i < length r.values) h.1.is
+  val_asks a n i v l h = there_is (u.heap v) a h.1.r u.partial (λ r. i < length r.values) h.1.is
       (let e = h.1.long in omega arith)
 
   -- a look leaves it

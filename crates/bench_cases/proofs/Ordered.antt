@@ -17,10 +17,10 @@ use Rattle.py_data.specs.Sense.{Sense, Lawful, Asks, Safe, Meets, ShownOf, IsLiv
 use Rattle.py_data.proofs.EveryLemmas.{every_and}
 use Rattle.py_data.proofs.Holding.{holds_ret, holds_safe, holds_run}
 use Rattle.py_data.proofs.HoldingCalls.{holds_make}
-use Rattle.py_data.proofs.Rows.{meets-ret, meets-do}
+use Rattle.py_data.proofs.Rows.{meets_ret, meets_do}
 use Rattle.py_data.proofs.ItemLemmas.{item_at, items_stay}
 use Rattle.py_data.proofs.Looking.{look_asks, looks_held}
-use Rattle.py_data.proofs.Steps.{live-after}
+use Rattle.py_data.proofs.Steps.{live_after}
 use Rattle.obj_class.specs.NewRoots.{roots_row}
 use Rattle.obj_class.specs.Roots.{IsRoots}
 use Rattle.obj_class.proofs.RootsHold.{roots_hold}
@@ -62,7 +62,7 @@ module _ {S X : Type 0} {u : Sense S X} {v : X} (ready : Ready u v) where
       (roots_hold free any_state (u.heap v) ready.order (λ a. tt)) ready.order m in
       record {
         whole = ready.whole;
-        live = live-after u L roots_row v w a m ready.live;
+        live = live_after u L roots_row v w a m ready.live;
         order = r.1;
         listed = r.0;
         items = tt;
@@ -87,7 +87,7 @@ module _ {S X : Type 0} {u : Sense S X} {roots : ℕ} {stack : List Value} {v : 
         record {
           good = record {
             whole = good.whole;
-            live = live-after u L row v w y m good.live;
+            live = live_after u L row v w y m good.live;
             order = r.1;
             listed =
                 roots_stay (u.heap v) (u.heap w) roots r.2 good.listed;
@@ -169,5 +169,5 @@ module _ {S X : Type 0} {u : Sense S X} {roots : ℕ} {stack : List Value} {v : 
       (holds_make free any_state (λ x h. IsItem h x) r (λ a. Ret (Ref (record { 0 = a }))) (u.heap v) fits
       (λ a h1 order x e i. holds_ret free any_state (λ x h. IsItem h x) (Ref (record { 0 = a })) h1 i)) L w
       (Ref (record { 0 = a }))
-      (meets-do u (Make r) (λ a. Ret (Ref (record { 0 = a }))) v w w a (Ok (Ref (record { 0 = a }))) d
-      (meets-ret u (Ref (record { 0 = a })) w))
+      (meets_do u (Make r) (λ a. Ret (Ref (record { 0 = a }))) v w w a (Ok (Ref (record { 0 = a }))) d
+      (meets_ret u (Ref (record { 0 = a })) w))

@@ -169,10 +169,10 @@ extents_same r q c k v b m f = same_le (one_if (eqb c 2) + bodies_of r r.kind c)
 
 -- ---- changes
 
-slice_set-length : {X : Type 0} (xs : List X) (i : ℕ) (x : X) → length (slice_set xs i x) ≡ length xs
-slice_set-length [] i x = refl
-slice_set-length (y ∷ ys) zero x = refl
-slice_set-length (y ∷ ys) (suc i) x = ap suc (slice_set-length ys i x)
+slice_set_length : {X : Type 0} (xs : List X) (i : ℕ) (x : X) → length (slice_set xs i x) ≡ length xs
+slice_set_length [] i x = refl
+slice_set_length (y ∷ ys) zero x = refl
+slice_set_length (y ∷ ys) (suc i) x = ap suc (slice_set_length ys i x)
 
 roomy_more : (x : Change) (r : Rec) (c : ℕ) → (r.kind ≡ ListKind) ⊎ (r.kind ≡ Dict) → extents r c ≤
     extents (after x r) c
@@ -180,7 +180,7 @@ roomy_more x r c is = let k = kept_after x r in extents_rooms r (after x r) c is
 
 -- a change that a record allows leaves it the extents that it has
 pub after_more : (x : Change) (r : Rec) → Allows x r → (c : ℕ) → extents r c ≤ extents (after x r) c
-after_more (Set i v) r ok c = extents_same r (with_value i v r) c refl (slice_set-length r.values i v) refl refl refl
+after_more (Set i v) r ok c = extents_same r (with_value i v r) c refl (slice_set_length r.values i v) refl refl refl
 after_more (Push v) r ok c = roomy_more (Push v) r c (inl ok.0)
 after_more (Cut n) r ok c = roomy_more (Cut n) r c (inl ok.0)
 after_more (Pair key v) r ok c = roomy_more (Pair key v) r c (inr ok.0)

@@ -7,7 +7,7 @@ use Rattle.py_data.specs.Heap.{Heap, Rec, at}
 use Rattle.py_data.specs.Row.{Call, Reply, Ret, Do, Read, Find, Edit, Make, Start, Put, Take, MidLine, SetMidLine}
 use Rattle.py_data.specs.Sight.{Sight, Act}
 use Rattle.py_data.proofs.Grow.{with_rec_here}
-use Rattle.py_data.proofs.Steps.{at-is}
+use Rattle.py_data.proofs.Steps.{at_is}
 use Rattle.lock_run.specs.Client.{WaitsQuietly, StaysSound, IsSafe}
 use Rattle.lock_run.specs.Prog.{Prog}
 use Rattle.lock_run.specs.Machine.{Machine}
@@ -135,7 +135,7 @@ call_more {S} (Edit a x) s r t d = record {
     at_put cl l =
         let u : extents_of (t.heap a) cl ≡ extents (after x d.0) cl = ap (λ o. extents_of o cl) there in
         let v : extents (after x (at s.heap a)) cl ≡ extents (after x d.0) cl =
-        ap (λ z. extents (after x z) cl) (at-is s.heap a d.0 d.1) in
+        ap (λ z. extents (after x z) cl) (at_is s.heap a d.0 d.1) in
         omega arith
 call_more {S} (Make q) s a t d = record {
   address = a;

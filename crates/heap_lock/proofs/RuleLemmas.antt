@@ -15,8 +15,8 @@ use Rattle.atomic_table.proofs.Lists.{at_set, at_snoc, set_here, exchanged}
 use Rattle.heap_lock.specs.declared.view.View.{View}
 use Rattle.heap_lock.specs.Parts.{times, HasAllParts, IsDescending}
 use Rattle.heap_lock.specs.Rule.{HasValue, FollowsRule, first_view, split_left, split_right, joined, spent, Takes, Gives, IsSeat}
-use Rattle.heap_lock.proofs.Sums.{sum_by-change, one_le-sum_by, two_le-sum_by, sum_by-zeros}
-use Rattle.heap_lock.proofs.PartsLemmas.{times_split, times-merged, times-all_parts, times-Contains, none_left, some_from_length}
+use Rattle.heap_lock.proofs.Sums.{sum_by_change, one_le_sum_by, two_le_sum_by, sum_by_zeros}
+use Rattle.heap_lock.proofs.PartsLemmas.{times_split, times_merged, times_all_parts, times_Contains, none_left, some_from_length}
 
 module _ {T J : Type 0} (job : T → J) (good : T → Type 0) (grows : T → T → Type 0)
     (same : (x : T) → grows x x) (along : (x y z : T) → grows x y → grows y z → grows x z) (n : ℕ) (j : J) where
@@ -85,7 +85,7 @@ module _ {T J : Type 0} (job : T → J) (good : T → Type 0) (grows : T → T �
       ) in record {
         one_word = refl;
         free_or_held = omega arith;
-        parts_once = λ part. omega (arith, times-all_parts part n);
+        parts_once = λ part. omega (arith, times_all_parts part n);
         one_job = λ id v e. (alone id v e).1;
         only_live_hold = λ id v e. (alone id v e).0;
         holders = refl;
@@ -109,13 +109,13 @@ module _ {T J : Type 0} (job : T → J) (good : T → Type 0) (grows : T → T �
         one_word = length-set s.words 0 m ∙ k.one_word;
         free_or_held = let l = low in omega arith;
         parts_once = λ part.
-            let t = sum_by-change (λ (u : View T J). times part u.parts) s.views id v w at in
+            let t = sum_by_change (λ (u : View T J). times part u.parts) s.views id v w at in
             let e : times part w.parts ≡ times part v.parts = ap (times part) equal in
             let a = k.parts_once part in
             omega arith;
         one_job = λ i u e. (after i u e).1;
         only_live_hold = λ i u e. (after i u e).0;
-        holders = let t = sum_by-change count s.views id v w at in let h = k.holders in omega arith;
+        holders = let t = sum_by_change count s.views id v w at in let h = k.holders in omega arith;
         value = x;
         value_is_good = fine;
         value_for_job = for_job;
@@ -164,7 +164,7 @@ module _ {T J : Type 0} (job : T → J) (good : T → Type 0) (grows : T → T �
   alone_holds : (s : State (Option T) (View T J)) → Kept s → (id i : ℕ) (v u : View T J)
       → get_elem? s.views id ≡ some v → get_elem? s.views i ≡ some u → i ≢ id → v.holds ≡ true → u.holds ≡ true → ⊥
   alone_holds s k id i v u at at' ne holds holds' =
-      let two = two_le-sum_by count s.views id i v u ne at at' in
+      let two = two_le_sum_by count s.views id i v u ne at at' in
       let a = count_held v holds in
       let b = count_held u holds' in
       let word = k.free_or_held in
@@ -187,7 +187,7 @@ module _ {T J : Type 0} (job : T → J) (good : T → Type 0) (grows : T → T �
       (λ i u ne q. (seen u (k.value_is_later i u q), λ h. absurd (alone_holds s k id i v u at q ne holds h)))
       (seen_alone x x (same x), λ no. absurd (true≢false (sym no))) in
       let one = count_held v holds in
-      let most = one_le-sum_by count s.views id v at in
+      let most = one_le_sum_by count s.views id v at in
       let word = k.free_or_held in
       let held = k.holders in (
         w,
@@ -220,14 +220,14 @@ module _ {T J : Type 0} (job : T → J) (good : T → Type 0) (grows : T → T �
         free_or_held = k.free_or_held;
         parts_once = λ part.
             let f : View T J → ℕ = λ u. times part u.parts in
-            let a = sum_by-change f s.views id v left at in
+            let a = sum_by_change f s.views id v left at in
             let b = sum_by_push f vs right in
             let c = times_split part v.parts in
             let d = k.parts_once part in
             omega arith;
         one_job = λ i u e. (after i u e).1;
         only_live_hold = λ i u e. (after i u e).0;
-        holders = let a = sum_by-change count s.views id v left at in let b = sum_by_push count vs right in let c =
+        holders = let a = sum_by_change count s.views id v left at in let b = sum_by_push count vs right in let c =
             k.holders in omega arith;
         value = k.value;
         value_is_good = k.value_is_good;
@@ -258,15 +258,15 @@ module _ {T J : Type 0} (job : T → J) (good : T → Type 0) (grows : T → T �
         free_or_held = k.free_or_held;
         parts_once = λ part.
             let f : View T J → ℕ = λ u. times part u.parts in
-            let a = sum_by-change f s.views id v both at in
-            let b = sum_by-change f vs other w spent at' in
-            let c = times-merged part w.parts v.parts in
+            let a = sum_by_change f s.views id v both at in
+            let b = sum_by_change f vs other w spent at' in
+            let c = times_merged part w.parts v.parts in
             let d = k.parts_once part in
             omega arith;
         one_job = λ i u e. (after i u e).1;
         only_live_hold = λ i u e. (after i u e).0;
-        holders = let a = sum_by-change count s.views id v both at in let b =
-            sum_by-change count vs other w spent at' in let c = k.holders in let d = count_free w free' in omega arith;
+        holders = let a = sum_by_change count s.views id v both at in let b =
+            sum_by_change count vs other w spent at' in let c = k.holders in let d = count_free w free' in omega arith;
         value = k.value;
         value_is_good = k.value_is_good;
         value_for_job = k.value_for_job;
@@ -280,17 +280,17 @@ module _ {T J : Type 0} (job : T → J) (good : T → Type 0) (grows : T → T �
       → get_elem? s.views id ≡ some v → get_elem? s.views i ≡ some u → i ≢ id → HasAllParts n v.parts → u.parts ≡ []
   none_beside s k id i v u at at' apart all = none_left u.parts (λ part.
       let f : View T J → ℕ = λ x. times part x.parts in
-      let most = two_le-sum_by f s.views id i v u apart at at' in
+      let most = two_le_sum_by f s.views id i v u apart at at' in
       let once = k.parts_once part in
       dite (dec_lt part n)
-      (λ within. let one : 1 ≤ times part v.parts = times-Contains part v.parts (all.each part within) in
+      (λ within. let one : 1 ≤ times part v.parts = times_Contains part v.parts (all.each part within) in
       grind (arith, nat_tests))
       (λ beyond. grind (arith, nat_tests)))
 
   -- and so the lock is free
   closes_free : (s : State (Option T) (View T J)) → Kept s → (id : ℕ) (v : View T J) → get_elem? s.views id ≡ some v →
       v.holds ≡ false → HasAllParts n v.parts → get_or s.words 0 0 ≡ 0
-  closes_free s k id v at free all = sym k.holders ∙ sum_by-zeros count s.views (λ i u e. dite (ℕ_discrete i id)
+  closes_free s k id v at free all = sym k.holders ∙ sum_by_zeros count s.views (λ i u e. dite (ℕ_discrete i id)
       (λ same. let is : v ≡ u = some-injective v u (sym at ∙ (ap (get_elem? s.views) (sym same) ∙ e)) in
       ap count (sym is) ∙ count_free v free)
       (λ apart. count_free u (k.only_live_hold i u e (none_beside s k id i v u at e apart all))))

@@ -6,7 +6,7 @@ use Rattle.py_data.specs.declared.stop.Stop.TheVariants.{OutOfMemory}
 use Rattle.py_data.specs.Row.{Do, Make, Start}
 use Rattle.py_data.specs.Sense.{Sense, Lawful, Meets, IsLive}
 use Rattle.py_data.specs.inner.Rest.{Leads}
-use Rattle.py_data.proofs.Steps.{leads-do, leads-ret, leads-refused, leads-own}
+use Rattle.py_data.proofs.Steps.{leads_do, leads_ret, leads_refused, leads_own}
 use Rattle.lock_run.specs.declared.script.ScriptState.{ScriptState}
 use Rattle.lock_run.specs.declared.script.ScriptState.TheVariants.{Acts}
 use Rattle.lock_run.specs.Script.{zero_cell, with_cell, make_cells, start_threads}
@@ -40,18 +40,18 @@ module _ {S X : Type 0} {u : Sense S X} {n : ℕ} {v : X} where
 
     pub making_more : (L : Lawful u) (a : ℕ) (x : X) → i < n → u.does (Make zero_cell) w a x →
         Making u n (i + 1) (with_cell cells a) v x
-    making_more L a x h d = record { leads = leads-do L a (making_next h) d }
+    making_more L a x h d = record { leads = leads_do L a (making_next h) d }
 
     pub making_refused : (e : Stop) (x : X) → i < n → u.refuses (Make zero_cell) w e x →
         Meets u (make_cells {S = S} n []) v x (Err e)
-    making_refused e x h d = leads-refused (making_next h) d
+    making_refused e x h d = leads_refused (making_next h) d
 
     pub making_starved : Meets u (make_cells {S = S} n []) v w (Err OutOfMemory)
-    making_starved = leads-own m.leads
+    making_starved = leads_own m.leads
 
     pub making_last : n ≤ i → Meets u (make_cells {S = S} n []) v w (Ok cells)
     unfolding make_cells
-    making_last h = leads-ret (subst (λ k. Leads u (make_cells {S = S} n []) v (make_cells k cells) w)
+    making_last h = leads_ret (subst (λ k. Leads u (make_cells {S = S} n []) v (make_cells k cells) w)
         (none_left n i h) m.leads)
 
 -- ---- the loop that starts the threads, before its turn i
@@ -76,16 +76,16 @@ module _ {X : Type 0} {u : Sense ScriptState X} {n : ℕ} {cells : List Addr} {l
 
     pub starting_more : (L : Lawful u) (x : X) → i < n → u.does (Start (Acts i 0 cells list)) w tt x →
         Starting u n (i + 1) cells list v x
-    starting_more L x h d = record { leads = leads-do L tt (starting_next h) d }
+    starting_more L x h d = record { leads = leads_do L tt (starting_next h) d }
 
     pub starting_refused : (e : Stop) (x : X) → i < n → u.refuses (Start (Acts i 0 cells list)) w e x →
         Meets u (start_threads n 0 cells list) v x (Err e)
-    starting_refused e x h d = leads-refused (starting_next h) d
+    starting_refused e x h d = leads_refused (starting_next h) d
 
     pub starting_starved : Meets u (start_threads n 0 cells list) v w (Err OutOfMemory)
-    starting_starved = leads-own m.leads
+    starting_starved = leads_own m.leads
 
     pub starting_last : n ≤ i → Meets u (start_threads n 0 cells list) v w (Ok tt)
     unfolding start_threads
-    starting_last h = leads-ret (subst (λ k. Leads u (start_threads n 0 cells list) v (start_threads k i cells list) w)
+    starting_last h = leads_ret (subst (λ k. Leads u (start_threads n 0 cells list) v (start_threads k i cells list) w)
         (none_left n i h) m.leads)

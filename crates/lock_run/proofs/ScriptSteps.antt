@@ -7,7 +7,7 @@ use Rattle.py_data.specs.declared.stop.Stop.{Stop}
 use Rattle.py_data.specs.Row.{Row, Ret}
 use Rattle.py_data.specs.Sense.{Sense, Bracket, IsBracket, Run, Stopped, Meets, Safe}
 use Rattle.py_data.proofs.Parts.{safe_shown}
-use Rattle.py_data.proofs.Rows.{run-bind, run-ret, stop-first}
+use Rattle.py_data.proofs.Rows.{run_bind, run_ret, stop_first}
 use Rattle.lock_run.specs.declared.client.Outcome.{Outcome}
 use Rattle.lock_run.specs.declared.client.Outcome.TheVariants.{Ended}
 use Rattle.lock_run.specs.declared.script.Act.{Act}
@@ -48,8 +48,8 @@ module _ {X : Type 0} (u : Sense ScriptState X) (b : Bracket ScriptState X) (n :
   prelude_done count q w c e ends m =
       let all : Meets u (prelude_row n (length lists)) v1 w (Ok tt) =
       subst (λ k. Meets u (prelude_row n k) v1 w (Ok tt)) c m in
-      let r = run-bind u (prelude_row n (length lists)) then_over v1 w w tt (Ended, Over) all
-      (run-ret u (Ended, Over) w) in (
+      let r = run_bind u (prelude_row n (length lists)) then_over v1 w w tt (Ended, Over) all
+      (run_ret u (Ended, Over) w) in (
         v1,
         opens,
         subst (λ z. Run u (script_row n lists s) v1 z w) (sym ends)
@@ -66,7 +66,7 @@ module _ {X : Type 0} (u : Sense ScriptState X) (b : Bracket ScriptState X) (n :
         w,
         opens,
         subst (λ q. Stopped u (script_row n lists q) v1 stop w) (sym e)
-            (stop-first u (prelude_row n (length lists)) then_over v1 w stop all),
+            (stop_first u (prelude_row n (length lists)) then_over v1 w stop all),
         un,
       )
 
@@ -83,8 +83,8 @@ module _ {X : Type 0} (u : Sense ScriptState X) (b : Bracket ScriptState X) (n :
     act_done act next q w is left ends m =
         let p = now_done next number (done + 1) cells list in
         let last : Run u (after tt) w p w = subst (λ o. Run u (Ret (now_done o number (done + 1) cells list)) w p w)
-        (sym left) (run-ret u p w) in
-        let r = run-bind u (act_row cells list act) after v1 w w tt p m last in (
+        (sym left) (run_ret u p w) in
+        let r = run_bind u (act_row cells list act) after v1 w w tt p m last in (
           v1,
           opens,
           subst (λ z. Run u (script_row n lists s) v1 z w) (sym ends)
@@ -97,7 +97,7 @@ module _ {X : Type 0} (u : Sense ScriptState X) (b : Bracket ScriptState X) (n :
         StepStopped u b (script_row n lists s) v stop w1
     unfolding script_row Meets after
     act_stopped act stop w w1 is m un =
-        let r = stop-first u (act_row cells list act) after v1 w stop m in (
+        let r = stop_first u (act_row cells list act) after v1 w stop m in (
           v1,
           w,
           opens,
@@ -116,7 +116,7 @@ module _ {X : Type 0} (u : Sense ScriptState X) (b : Bracket ScriptState X) (n :
       subst (λ z. Run u (script_row n lists s) v1 z v1) (sym ends)
           (subst (λ z. Run u (script_row n lists z) v1 (Ended, Over) v1) (sym e)
           (subst (λ o. Run u (at_act lists number done cells list o) v1 (Ended, Over) v1) (sym is)
-          (run-ret u (Ended, Over) v1))),
+          (run_ret u (Ended, Over) v1))),
     )
 
 -- ---- equal lists of addresses

@@ -18,7 +18,7 @@ use Rattle.py_data.specs.Sight.{Sight, Does, pure}
 use Rattle.py_data.specs.World.{World}
 use Rattle.py_data.proofs.Grow.{with_rec_here}
 use Rattle.py_data.proofs.Holding.{act_effect}
-use Rattle.py_data.proofs.Rows.{bind-run}
+use Rattle.py_data.proofs.Rows.{bind_run}
 use Rattle.obj_class.specs.Bases.{ref}
 use Rattle.obj_class.specs.Telling.{told_row}
 use Rattle.obj_str.specs.Strings.{made_text, new_text}
@@ -78,7 +78,7 @@ module _ {S : Type 0} where
       IsPrompted roots x s y t
   unfolding ask_row
   prompted_done roots x s t y d =
-      let b = bind-run {S = S} pure (told_row roots x false) (got_row prompt_row) s y t d in
+      let b = bind_run {S = S} pure (told_row roots x false) (got_row prompt_row) s y t d in
       record { text = b.0; between = b.1; told = b.2; asked = got_done b.0 b.1 t y b.3 }
 
 pub input_law : (S : Type 0) → InputLaw S

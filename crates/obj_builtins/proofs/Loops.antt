@@ -5,7 +5,7 @@ use Rattle.py_data.specs.Heap.{value_at}
 use Rattle.py_data.specs.Looking.{until_row, each_row}
 use Rattle.py_data.specs.Sense.{Sense, Safe, IsLive}
 use Rattle.py_data.specs.inner.Rest.{Leads}
-use Rattle.py_data.proofs.Steps.{leads-begin}
+use Rattle.py_data.proofs.Steps.{leads_begin}
 use Rattle.obj_builtins.specs.declared.arguments.Form.{Form}
 use Rattle.obj_builtins.specs.declared.best.Side.{Side}
 use Rattle.obj_builtins.specs.declared.kinds.Class.{Class}
@@ -21,7 +21,7 @@ module _ {S X : Type 0} {u : Sense S X} where
       let e : n - 0 ≡ n = omega arith in
       subst (λ m. Leads u (classes_in {S = S} a n) v (each_row (class_turn a) 0 m cs) v) (sym e)
       (subst (λ z. Leads u (classes_in {S = S} a n) v (each_row (class_turn a) 0 n z) v) (sym c)
-      (leads-begin u (classes_in {S = S} a n) v s l))
+      (leads_begin u (classes_in {S = S} a n) v s l))
 
   pub any_begin : (roots : ℕ) (f : Form) (cs : List Class) (n : ℕ) (v : X) → n ≡ length cs →
       Safe u.partial (any_row {S = S} roots f cs) (u.heap v) → IsLive u v
@@ -32,7 +32,7 @@ module _ {S X : Type 0} {u : Sense S X} where
       let e : n - 0 ≡ length cs = omega (arith, c) in
       subst (λ m. Leads u (any_row {S = S} roots f cs) v
       (until_row (λ i. class_row roots f (class_at cs i)) not false 0 m) v) (sym e)
-      (leads-begin u (any_row {S = S} roots f cs) v s l)
+      (leads_begin u (any_row {S = S} roots f cs) v s l)
 
   pub best_begin : (side : Side) (first : Value) (vs : List Value) (n : ℕ) (v : X) → n ≡ length vs →
       Safe u.partial (best_from {S = S} side first vs) (u.heap v) → IsLive u v
@@ -43,4 +43,4 @@ module _ {S X : Type 0} {u : Sense S X} where
       let e : n - 0 ≡ length vs = omega (arith, c) in
       subst (λ m. Leads u (best_from {S = S} side first vs) v
       (each_row (λ i best. better_row side (value_at vs i) best) 0 m first) v) (sym e)
-      (leads-begin u (best_from {S = S} side first vs) v s l)
+      (leads_begin u (best_from {S = S} side first vs) v s l)

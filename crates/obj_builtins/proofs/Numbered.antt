@@ -11,7 +11,7 @@ use Rattle.py_data.specs.Fault.{operand_fault}
 use Rattle.py_data.specs.Heap.{Heap}
 use Rattle.py_data.specs.Row.{Ret}
 use Rattle.py_data.specs.Sense.{Sense, Safe, Meets}
-use Rattle.py_data.proofs.Rows.{meets-answer}
+use Rattle.py_data.proofs.Rows.{meets_answer}
 use Rattle.obj_builtins.specs.Functions.{later_row, function_row}
 
 unlike : {A : Type 0} (m n : ℕ) (x y : A) → m ≢ n → cond (m == n) x y ≡ y
@@ -56,4 +56,4 @@ pub other_met : {S X : Type 0} (u : Sense S X) (roots b : ℕ) (args : List Valu
     → MatchResult res (λ g. g ≡ Raise operand_fault) (λ e. e ≡ OutOfMemory) → Meets u (later_row roots b args) v v res
 other_met {S = S} u roots b args v res d i o c a l g s t r =
     subst (λ row. Meets u row v v res) (sym (other_row S roots b args d i o c a l g s t))
-    (meets-answer u (Raise operand_fault) v res r)
+    (meets_answer u (Raise operand_fault) v res r)

@@ -18,7 +18,7 @@ use Rattle.py_data.specs.Heap.{Rec, new_rec, value_at}
 use Rattle.py_data.specs.Range.{range_item}
 use Rattle.py_data.specs.Row.{Row, Ret, Make}
 use Rattle.py_data.specs.Sense.{Sense, Lawful, Run}
-use Rattle.py_data.proofs.Steps.{put-here}
+use Rattle.py_data.proofs.Steps.{put_here}
 use Rattle.obj_class.specs.Bases.{ref}
 use Rattle.obj_ops.specs.Numbers.{overflow_fault}
 use Rattle.obj_ops.specs.Sequences.{made_row, new_items}
@@ -60,7 +60,7 @@ module _ {S X : Type 0} (u : Sense S X) (L : Lawful u) where
   made_is k vs v w y d =
       let f = L.effect (Make (new_rec k vs [])) v d.0 d.1 d.2 in
       let e : Is y ≡ Is (ref d.0) = d.3.0 in
-      (d.0, cc, ap (λ h. h d.0) (ap u.heap d.3.1 ∙ f.1) ∙ put-here (u.heap v) d.0 (new_rec k vs []))
+      (d.0, cc, ap (λ h. h d.0) (ap u.heap d.3.1 ∙ f.1) ∙ put_here (u.heap v) d.0 (new_rec k vs []))
 
   -- what answers hasn't raised
   first_off : (b : Bool) (e : Fault) (row : Row S (Got Value)) (v w : X) (y : Value) →

@@ -13,7 +13,7 @@ use Rattle.py_data.specs.Looking.{Looks, look_row, bytes_row, kind_row}
 use Rattle.py_data.specs.Row.{Row, Ret, Read, bind}
 use Rattle.py_data.specs.Sense.{Sense, Lawful, Run}
 use Rattle.py_data.proofs.Looking.{looks_ret, looks_then, look_looks, looks_run, some_of, kind_looks}
-use Rattle.py_data.proofs.Rows.{bind-run}
+use Rattle.py_data.proofs.Rows.{bind_run}
 use Rattle.obj_dict.specs.Dict.{del_row}
 use Rattle.obj_class.specs.Attributes.{address_in, attribute_fault, bytes_in, dict_of_kind, dict_of_record, own_dict}
 use Rattle.obj_class.specs.AttrRows.{del_attr_row, del_in, dict_at, dict_by, dict_row, gone_row, missing_row, set_attr_row, set_in, taken_row}
@@ -74,7 +74,7 @@ module _ {S X : Type 0} {u : Sense S X} (L : Lawful u) where
   after_dict : {A : Type 0} (f : Option Addr → Row S A) (x : Value) (v w : X) (res : A) → IsItem (u.heap v) x →
       Run u (bind (dict_row x) f) v res w → (m : X) × (u.heap m ≡ u.heap v) × Run u (f (own_dict (u.heap v) x)) m res w
   after_dict f x v w res i d =
-      let b = bind-run u (dict_row x) f v res w d in
+      let b = bind_run u (dict_row x) f v res w d in
       let r = looks_run u L (λ o h. o ≡ own_dict h x) (dict_row x) v b.1 b.0 (dict_looks S (u.heap v) x i.0) b.2 in
       (b.1, r.1, subst (λ o. Run u (f o) b.1 res w) r.0 b.3)
 
@@ -115,7 +115,7 @@ module _ {S X : Type 0} {u : Sense S X} (L : Lawful u) where
     set = λ x y name d v w res i e r. set_run x y name (Some d) v w res i e r;
     del = λ x name d v w res i e r.
         let a = del_run x name (Some d) v w res i e r in
-        let b = bind-run u (del_row d.0 (ref name)) (λ g. gone_row name g) a.0 res w a.2 in
+        let b = bind_run u (del_row d.0 (ref name)) (λ g. gone_row name g) a.0 res w a.2 in
         let c = gone_run name b.0 b.1 w res b.3 in
         (a.0, b.1, b.0, a.1, b.2, c.0, c.1);
     set_none = λ x y name v w res i e r. let a = set_run x y name None v w res i e r in

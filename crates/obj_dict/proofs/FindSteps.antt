@@ -7,7 +7,7 @@ use Rattle.py_data.specs.Shape.{same_key, find_from}
 use Rattle.py_data.specs.Row.{Row, Do, Find, bind}
 use Rattle.py_data.specs.Sense.{Sense, Lawful, Safe, Meets, IfThere, IsLive}
 use Rattle.py_data.specs.inner.Rest.{Leads}
-use Rattle.py_data.proofs.Steps.{leads-begin, leads-do, safe-then}
+use Rattle.py_data.proofs.Steps.{leads_begin, leads_do, safe_then}
 use Rattle.obj_dict.specs.Dict.{key_row, if_key}
 
 pub within : (h : Heap) (vs : List Value) (key : Value) (n i : ℕ) → find_from h n vs key ≡ Some i →
@@ -22,10 +22,10 @@ within h (k ∷ v ∷ rest) key n i e = by (same_key h k key) (λ f. within h re
     by false g f = let r = g f in let a = r.0 in let b = r.1 in (omega arith, omega arith)
 
 -- the value of a pair that was found is there
-pub value-there : {S X : Type 0} (u : Sense S X) (L : Lawful u) (d : ℕ) (key : Value) (m w : X) (o : Option ℕ) (i : ℕ)
+pub value_there : {S X : Type 0} (u : Sense S X) (L : Lawful u) (d : ℕ) (key : Value) (m w : X) (o : Option ℕ) (i : ℕ)
     → u.does (Find d key) m o w → o ≡ Some i → IfThere u.partial (u.heap w d) (λ r. 2 * i + 1 < length r.values)
 unfolding at
-value-there u L d key m w o i h e =
+value_there u L d key m w o i h e =
     let f = L.effect (Find d key) m o w h in
     let g = within (u.heap m) (at (u.heap m) d).values key 0 i (sym f.1 ∙ e) in
     let less : 2 * i + 1 < length (at (u.heap m) d).values = let a = g.1 in omega arith in
@@ -38,15 +38,15 @@ value-there u L d key m w o i h e =
 
 module _ {S X A : Type 0} {u : Sense S X} (L : Lawful u) {d : ℕ} {key : Value} {v w : X} where
   -- what is left of a row once the key was looked for
-  pub found-leads : (k : Option ℕ → Row S A) (o o1 : Option ℕ) → u.does (Find d key) v o w → o ≡ o1 →
+  pub found_leads : (k : Option ℕ → Row S A) (o o1 : Option ℕ) → u.does (Find d key) v o w → o ≡ o1 →
       Safe u.partial (Do (Find d key) k) (u.heap v) → IsLive u v → Leads u (Do (Find d key) k) v (k o1) w
-  found-leads k o o1 h e s l = subst (λ p. Leads u (Do (Find d key) k) v (k p) w) e
-      (leads-do L o (leads-begin u (Do (Find d key) k) v s l) h)
+  found_leads k o o1 h e s l = subst (λ p. Leads u (Do (Find d key) k) v (k p) w) e
+      (leads_do L o (leads_begin u (Do (Find d key) k) v s l) h)
 
 -- what is asked once a value was found to be a possible key
-pub keyed-safe : {S X A : Type 0} (u : Sense S X) (L : Lawful u) (key : Value) (row : Row S (Got A)) (v m : X)
+pub keyed_safe : {S X A : Type 0} (u : Sense S X) (L : Lawful u) (key : Value) (row : Row S (Got A)) (v m : X)
     (b : Bool) → Safe u.partial (bind (key_row key) (if_key row)) (u.heap v) → Meets u (key_row key) v m (Ok b) →
     b ≡ true → Safe u.partial row (u.heap m)
 unfolding if_key
-keyed-safe {S} u L key row v m b s h e = subst (λ b. Safe u.partial (if_key row b) (u.heap m)) e
-    (safe-then u L (key_row key) (if_key row) v m b s h)
+keyed_safe {S} u L key row v m b s h e = subst (λ b. Safe u.partial (if_key row b) (u.heap m)) e
+    (safe_then u L (key_row key) (if_key row) v m b s h)

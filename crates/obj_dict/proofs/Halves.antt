@@ -13,59 +13,59 @@ use Rattle.py_data.specs.Heap.{Rec, at, value_at, new_rec}
 use Rattle.py_data.specs.Row.{Row, Ret, Do, Read, Make}
 use Rattle.py_data.specs.Sense.{Sense, Lawful, Meets, Safe}
 use Rattle.py_data.specs.inner.Rest.{Leads, Stands}
-use Rattle.py_data.proofs.Rows.{meets-own, meets-do, read-heap, safe-next}
-use Rattle.py_data.proofs.Steps.{stands-again, as-err, at-is, leads-do, leads-ret}
+use Rattle.py_data.proofs.Rows.{meets_own, meets_do, read_heap, safe_next}
+use Rattle.py_data.proofs.Steps.{stands_again, as_err, at_is, leads_do, leads_ret}
 use Rattle.obj_dict.specs.Listing.{half, tuples_row}
 
-pub half-next : (second : Bool) (vs : List Value) (i : ℕ) → 2 * i + 1 < length vs →
+pub half_next : (second : Bool) (vs : List Value) (i : ℕ) → 2 * i + 1 < length vs →
     half second (take (2 * (i + 1)) vs) ≡ half second (take (2 * i) vs) ++ value_at vs (2 * i + cond second 1 0) ∷ []
-half-next second [] i h = absurd (omega arith)
-half-next second (k ∷ []) i h = absurd (omega arith)
-half-next true (k ∷ x ∷ rest) zero h = refl
-half-next false (k ∷ x ∷ rest) zero h = refl
-half-next second (k ∷ x ∷ rest) (suc i) h =
+half_next second [] i h = absurd (omega arith)
+half_next second (k ∷ []) i h = absurd (omega arith)
+half_next true (k ∷ x ∷ rest) zero h = refl
+half_next false (k ∷ x ∷ rest) zero h = refl
+half_next second (k ∷ x ∷ rest) (suc i) h =
     let a : 2 * (suc i + 1) ≡ suc (suc (2 * (i + 1))) = omega arith in
     let b : 2 * suc i ≡ suc (suc (2 * i)) = omega arith in
     let c : 2 * suc i + cond second 1 0 ≡ suc (suc (2 * i + cond second 1 0)) = omega arith in
-    rw (a, c, b) (ap (λ t. cond second x k ∷ t) (half-next second rest i (omega arith)))
+    rw (a, c, b) (ap (λ t. cond second x k ∷ t) (half_next second rest i (omega arith)))
 
-pub half-end : (second : Bool) (vs : List Value) (i : ℕ) → length vs ≤ 2 * i + 1 →
+pub half_end : (second : Bool) (vs : List Value) (i : ℕ) → length vs ≤ 2 * i + 1 →
     half second (take (2 * i) vs) ≡ half second vs
-half-end second [] zero h = refl
-half-end second (k ∷ []) zero h = refl
-half-end second (k ∷ x ∷ rest) zero h = absurd (omega arith)
-half-end second [] (suc i) h = let b : 2 * suc i ≡ suc (suc (2 * i)) = omega arith in rw b refl
-half-end second (k ∷ []) (suc i) h = let b : 2 * suc i ≡ suc (suc (2 * i)) = omega arith in rw b refl
-half-end second (k ∷ x ∷ rest) (suc i) h = let b : 2 * suc i ≡ suc (suc (2 * i)) = omega arith in
-    rw b (ap (λ t. cond second x k ∷ t) (half-end second rest i (omega arith)))
+half_end second [] zero h = refl
+half_end second (k ∷ []) zero h = refl
+half_end second (k ∷ x ∷ rest) zero h = absurd (omega arith)
+half_end second [] (suc i) h = let b : 2 * suc i ≡ suc (suc (2 * i)) = omega arith in rw b refl
+half_end second (k ∷ []) (suc i) h = let b : 2 * suc i ≡ suc (suc (2 * i)) = omega arith in rw b refl
+half_end second (k ∷ x ∷ rest) (suc i) h = let b : 2 * suc i ≡ suc (suc (2 * i)) = omega arith in
+    rw b (ap (λ t. cond second x k ∷ t) (half_end second rest i (omega arith)))
 
 module _ {S X : Type 0} (u : Sense S X) where
   -- a further look, while the view is as it was
-  pub looked-again : (L : Lawful u) {a : ℕ} {r q : Rec} {v w x : X} → Stands u a r v → w ≡ v → u.does (Read a) w q x →
+  pub looked_again : (L : Lawful u) {a : ℕ} {r q : Rec} {v w x : X} → Stands u a r v → w ≡ v → u.does (Read a) w q x →
       x ≡ v
-  looked-again L {a = a} {r = r} {q = q} h e d = stands-again L q (subst (Stands u a r) (sym e) h) d ∙ e
+  looked_again L {a = a} {r = r} {q = q} h e d = stands_again L q (subst (Stands u a r) (sym e) h) d ∙ e
 
   -- no memory of its own, while the view is as it was
-  pub starved-again : {A : Type 0} (row : Row S A) (v w : X) (res : Result A Stop) → w ≡ v →
+  pub starved_again : {A : Type 0} (row : Row S A) (v w : X) (res : Result A Stop) → w ≡ v →
       IsErrAnd res (λ e. e ≡ OutOfMemory) → Meets u row v w res
-  starved-again row v w res e h = subst (λ r. Meets u row v w r) (sym (as-err res OutOfMemory h))
-      (subst (λ z. Meets u row v z (Err OutOfMemory)) (sym e) (meets-own u row v))
+  starved_again row v w res e h = subst (λ r. Meets u row v w r) (sym (as_err res OutOfMemory h))
+      (subst (λ z. Meets u row v z (Err OutOfMemory)) (sym e) (meets_own u row v))
 
-  pub value-before : (a : ℕ) (v w : X) (x : Value) (i : ℕ) → w ≡ v → x ≡ value_at (at (u.heap w) a).values i →
+  pub value_before : (a : ℕ) (v w : X) (x : Value) (i : ℕ) → w ≡ v → x ≡ value_at (at (u.heap w) a).values i →
       x ≡ value_at (at (u.heap v) a).values i
-  value-before a v w x i e h = subst (λ z. x ≡ value_at (at (u.heap z) a).values i) e h
+  value_before a v w x i e h = subst (λ z. x ≡ value_at (at (u.heap z) a).values i) e h
 
   -- a row that looks first, and goes on with what it saw
-  pub look-then : {A : Type 0} (L : Lawful u) (a : ℕ) (k : Rec → Row S A) (v m w : X) (res : Result A Stop) →
+  pub look_then : {A : Type 0} (L : Lawful u) (a : ℕ) (k : Rec → Row S A) (v m w : X) (res : Result A Stop) →
       u.does (Read a) v (at (u.heap v) a) m → Meets u (k (at (u.heap m) a)) m w res → Meets u (Do (Read a) k) v w res
-  look-then L a k v m w res d h =
-      let same : at (u.heap m) a ≡ at (u.heap v) a = ap (λ h. at h a) (read-heap L a v m (at (u.heap v) a) d) in
-      meets-do u (Read a) k v m w (at (u.heap v) a) res d (subst (λ r. Meets u (k r) m w res) same h)
+  look_then L a k v m w res d h =
+      let same : at (u.heap m) a ≡ at (u.heap v) a = ap (λ h. at h a) (read_heap L a v m (at (u.heap v) a) d) in
+      meets_do u (Read a) k v m w (at (u.heap v) a) res d (subst (λ r. Meets u (k r) m w res) same h)
 
 -- a record stands when another was made
-stands-made : {S X : Type 0} {u : Sense S X} (L : Lawful u) {a b : ℕ} {r made : Rec} {w x : X} → Stands u a r w →
+stands_made : {S X : Type 0} {u : Sense S X} (L : Lawful u) {a b : ℕ} {r made : Rec} {w x : X} → Stands u a r w →
     u.does (Make made) w b x → Stands u a r x
-stands-made {u = u} L {a = a} {b = b} {r = r} {made = made} {w = w} {x = x} h d =
+stands_made {u = u} L {a = a} {b = b} {r = r} {made = made} {w = w} {x = x} h d =
     let e = L.effect (Make made) w b x d in
     let new : a ≢ b = λ same. let s = h.is in let n = e.0 in let s1 = ap (u.heap w) same in absurd (cc) in
     record {
@@ -82,54 +82,54 @@ pub record Tupling {S X : Type 0} (u : Sense S X) (d n : ℕ) (vs : List Value) 
   pub items : now.values ≡ vs
   pub count : length vs ≡ n
 
-drop-pair : (vs : List Value) (i : ℕ) → 2 * i + 1 < length vs →
+drop_pair : (vs : List Value) (i : ℕ) → 2 * i + 1 < length vs →
     drop (2 * i) vs ≡ value_at vs (2 * i) ∷ value_at vs (2 * i + 1) ∷ drop (2 * (i + 1)) vs
-drop-pair vs i h =
+drop_pair vs i h =
     let a = drop-cons vs (2 * i) Unset (omega arith) in
     let b = drop-cons vs (2 * i + 1) Unset h in
     let c : 2 * (i + 1) ≡ suc (2 * i + 1) = omega arith in
     rw c (a ∙ ap (λ t. value_at vs (2 * i) ∷ t) (ap (λ j. drop j vs) (sym (add-one (2 * i))) ∙ b))
 
 module _ {S X : Type 0} {u : Sense S X} {d n : ℕ} {vs : List Value} {i : ℕ} {refs : List Value} {v w : X} where
-  pub tupling-next : Tupling u d n vs i refs v w → (key x : Value) (made : Rec) → 2 * i + 1 < n →
+  pub tupling_next : Tupling u d n vs i refs v w → (key x : Value) (made : Rec) → 2 * i + 1 < n →
       key ≡ value_at vs (2 * i) → x ≡ value_at vs (2 * i + 1) → made ≡ new_rec Tuple (key ∷ x ∷ []) []
       → Leads u (tuples_row {S = S} [] vs) v
       (Do (Make made) (λ b. tuples_row (refs ++ Ref (record { 0 = b }) ∷ []) (drop (2 * (i + 1)) vs))) w
   unfolding tuples_row
-  tupling-next h key x made less e f g =
+  tupling_next h key x made less e f g =
       let inside : 2 * i + 1 < length vs = omega (arith, h.count) in
-      let here : drop (2 * i) vs ≡ key ∷ x ∷ drop (2 * (i + 1)) vs = rw (e, f) (drop-pair vs i inside) in
+      let here : drop (2 * i) vs ≡ key ∷ x ∷ drop (2 * (i + 1)) vs = rw (e, f) (drop_pair vs i inside) in
       rw g (subst (λ l. Leads u (tuples_row {S = S} [] vs) v (tuples_row refs l) w) here h.leads)
 
-  pub tupling-more : (L : Lawful u) → Tupling u d n vs i refs v w → (key x : Value) (made : Rec) (b : ℕ) (z : X) →
+  pub tupling_more : (L : Lawful u) → Tupling u d n vs i refs v w → (key x : Value) (made : Rec) (b : ℕ) (z : X) →
       2 * i + 1 < n → key ≡ value_at vs (2 * i) → x ≡ value_at vs (2 * i + 1) → made ≡ new_rec Tuple (key ∷ x ∷ []) []
       → u.does (Make made) w b z
       → Tupling u d n vs (i + 1) (refs ++ Ref (record { 0 = b }) ∷ []) v z
-  tupling-more L h key x made b z less e f g m = record {
-    leads = leads-do L b (tupling-next h key x made less e f g) m;
+  tupling_more L h key x made b z less e f g m = record {
+    leads = leads_do L b (tupling_next h key x made less e f g) m;
     now = h.now;
-    stands = stands-made L h.stands m;
+    stands = stands_made L h.stands m;
     items = h.items;
     count = h.count;
   }
 
-  pub tupling-here : Tupling u d n vs i refs v w → (at (u.heap w) d).values ≡ vs
-  tupling-here h = ap (λ r. r.values) (at-is (u.heap w) d h.now h.stands.is) ∙ h.items
+  pub tupling_here : Tupling u d n vs i refs v w → (at (u.heap w) d).values ≡ vs
+  tupling_here h = ap (λ r. r.values) (at_is (u.heap w) d h.now h.stands.is) ∙ h.items
 
-  pub tupling-looked : (L : Lawful u) {q : Rec} {x : X} → Tupling u d n vs i refs v w → u.does (Read d) w q x → x ≡ w
-  tupling-looked L {q = q} h r = stands-again L q h.stands r
+  pub tupling_looked : (L : Lawful u) {q : Rec} {x : X} → Tupling u d n vs i refs v w → u.does (Read d) w q x → x ≡ w
+  tupling_looked L {q = q} h r = stands_again L q h.stands r
 
-pub tuples-end : {S : Type 0} (refs rest : List Value) → length rest ≤ 1 → tuples_row {S = S} refs rest ≡ Ret refs
+pub tuples_end : {S : Type 0} (refs rest : List Value) → length rest ≤ 1 → tuples_row {S = S} refs rest ≡ Ret refs
 unfolding tuples_row
-tuples-end refs [] h = refl
-tuples-end refs (k ∷ []) h = refl
-tuples-end refs (k ∷ x ∷ rest) h = absurd (omega arith)
+tuples_end refs [] h = refl
+tuples_end refs (k ∷ []) h = refl
+tuples_end refs (k ∷ x ∷ rest) h = absurd (omega arith)
 
-pub tupling-last : {S X : Type 0} {u : Sense S X} {d n : ℕ} {vs : List Value} {i : ℕ} {refs : List Value} {v w : X} →
+pub tupling_last : {S X : Type 0} {u : Sense S X} {d n : ℕ} {vs : List Value} {i : ℕ} {refs : List Value} {v w : X} →
     Tupling u d n vs i refs v w → n ≤ 2 * i + 1 → Meets u (tuples_row {S = S} [] vs) v w (Ok refs)
-tupling-last {S = S} {u = u} {vs = vs} {i = i} {refs = refs} {v = v} {w = w} h less =
-    leads-ret (subst (λ row. Leads u (tuples_row {S = S} [] vs) v row w)
-    (tuples-end refs (drop (2 * i) vs) (omega (arith, length-drop (2 * i) vs, h.count))) h.leads)
+tupling_last {S = S} {u = u} {vs = vs} {i = i} {refs = refs} {v = v} {w = w} h less =
+    leads_ret (subst (λ row. Leads u (tuples_row {S = S} [] vs) v row w)
+    (tuples_end refs (drop (2 * i) vs) (omega (arith, length-drop (2 * i) vs, h.count))) h.leads)
 
 -- both values of a pair were read
 pub record PairRead {S X : Type 0} (u : Sense S X) (d n : ℕ) (vs : List Value) (i : ℕ) (refs : List Value) (v w : X)
@@ -138,24 +138,24 @@ pub record PairRead {S X : Type 0} (u : Sense S X) (d n : ℕ) (vs : List Value)
   pub key : k ≡ value_at vs (2 * i)
   pub value : x ≡ value_at vs (2 * i + 1)
 
-pub pair-read : {S X : Type 0} {u : Sense S X} (L : Lawful u) {d n : ℕ} {vs : List Value} {i : ℕ} {refs : List Value}
+pub pair_read : {S X : Type 0} {u : Sense S X} (L : Lawful u) {d n : ℕ} {vs : List Value} {i : ℕ} {refs : List Value}
     {v w m1 m2 : X} {q p : Rec} (key x : Value) → Tupling u d n vs i refs v w → u.does (Read d) w q m1 →
     key ≡ value_at (at (u.heap w) d).values (2 * i)
     → u.does (Read d) m1 p m2 → x ≡ value_at (at (u.heap m1) d).values (2 * i + 1) → PairRead u d n vs i refs v m2 key x
-pair-read {u = u} L {d = d} {n = n} {vs = vs} {i = i} {refs = refs} {v = v} key x h r e s f =
-    let same1 = tupling-looked L h r in
+pair_read {u = u} L {d = d} {n = n} {vs = vs} {i = i} {refs = refs} {v = v} key x h r e s f =
+    let same1 = tupling_looked L h r in
     let h1 = subst (Tupling u d n vs i refs v) (sym same1) h in
-    let same2 = tupling-looked L h1 s in
+    let same2 = tupling_looked L h1 s in
     record {
       still = subst (Tupling u d n vs i refs v) (sym same2) h1;
-      key = e ∙ ap (λ l. value_at l (2 * i)) (tupling-here h);
-      value = f ∙ ap (λ l. value_at l (2 * i + 1)) (tupling-here h1);
+      key = e ∙ ap (λ l. value_at l (2 * i)) (tupling_here h);
+      value = f ∙ ap (λ l. value_at l (2 * i + 1)) (tupling_here h1);
     }
 
 -- what a row asks behind a look
-pub safe-looked : {S X A : Type 0} {u : Sense S X} (L : Lawful u) (a : ℕ) (k : Rec → Row S A) (v m : X) →
+pub safe_looked : {S X A : Type 0} {u : Sense S X} (L : Lawful u) (a : ℕ) (k : Rec → Row S A) (v m : X) →
     u.does (Read a) v (at (u.heap v) a) m → Safe u.partial (Do (Read a) k) (u.heap v) →
     Safe u.partial (k (at (u.heap m) a)) (u.heap m)
-safe-looked {u = u} L a k v m d s =
-    let same : at (u.heap m) a ≡ at (u.heap v) a = ap (λ h. at h a) (read-heap L a v m (at (u.heap v) a) d) in
-    subst (λ r. Safe u.partial (k r) (u.heap m)) (sym same) (safe-next L (Read a) k v m (at (u.heap v) a) s d)
+safe_looked {u = u} L a k v m d s =
+    let same : at (u.heap m) a ≡ at (u.heap v) a = ap (λ h. at h a) (read_heap L a v m (at (u.heap v) a) d) in
+    subst (λ r. Safe u.partial (k r) (u.heap m)) (sym same) (safe_next L (Read a) k v m (at (u.heap v) a) s d)

@@ -13,42 +13,42 @@ use Rattle.py_data.specs.declared.change.Change.TheVariants as change
 use Rattle.py_data.specs.Row.{Row, Ret, Do, Read, Find, Edit, bind}
 use Rattle.py_data.specs.Fault.{hash_fault, memory_fault}
 use Rattle.py_data.specs.Sense.{Sense, Lawful, Edits, Run}
-use Rattle.py_data.proofs.Steps.{at-is, put-here}
+use Rattle.py_data.proofs.Steps.{at_is, put_here}
 use Rattle.obj_dict.specs.Dict.{key_row, if_key, value_of_pair, push_at, set_pair, drop_found, get_row, set_row, del_row}
 use Rattle.obj_dict.specs.Listing.{half}
 use Rattle.obj_dict.specs.PairLaws.{ArePaired}
 use Rattle.obj_dict.specs.Laws.{Leaves, value_of, HashLaw, GetLaw, SetLaw, NewLaw, FullLaw, DelLaw, LackLaw}
 use Rattle.obj_dict.proofs.FindSteps.{within}
-use Rattle.obj_dict.proofs.Pairing.{pair-law, double, double-more}
+use Rattle.obj_dict.proofs.Pairing.{pair_law_shown, double, double_more}
 
 -- the value of a pair, among the values
-half-at : (vs : List Value) (i : ℕ) → 2 * i + 1 < length vs →
+half_at : (vs : List Value) (i : ℕ) → 2 * i + 1 < length vs →
     slice_get (half true vs) i ≡ Some (value_at vs (2 * i + 1))
-half-at [] i h = absurd (omega arith)
-half-at (k ∷ []) i h = absurd (omega arith)
-half-at (k ∷ x ∷ rest) zero h = refl
-half-at (k ∷ x ∷ rest) (suc i) h = rw double-more (half-at rest i (omega arith))
+half_at [] i h = absurd (omega arith)
+half_at (k ∷ []) i h = absurd (omega arith)
+half_at (k ∷ x ∷ rest) zero h = refl
+half_at (k ∷ x ∷ rest) (suc i) h = rw double_more (half_at rest i (omega arith))
 
 -- a change of one value, a pair more and a pair less leave pairs
-set-paired : (vs : List Value) (i : ℕ) (x : Value) → ArePaired vs → ArePaired (set vs i x)
-set-paired [] zero x h = tt
-set-paired [] (suc i) x h = tt
-set-paired (k ∷ []) i x h = absurd h
-set-paired (k ∷ y ∷ rest) zero x h = h
-set-paired (k ∷ y ∷ rest) (suc zero) x h = h
-set-paired (k ∷ y ∷ rest) (suc (suc i)) x h = set-paired rest i x h
+set_paired : (vs : List Value) (i : ℕ) (x : Value) → ArePaired vs → ArePaired (set vs i x)
+set_paired [] zero x h = tt
+set_paired [] (suc i) x h = tt
+set_paired (k ∷ []) i x h = absurd h
+set_paired (k ∷ y ∷ rest) zero x h = h
+set_paired (k ∷ y ∷ rest) (suc zero) x h = h
+set_paired (k ∷ y ∷ rest) (suc (suc i)) x h = set_paired rest i x h
 
-push-paired : (vs : List Value) (key x : Value) → ArePaired vs → ArePaired (vs ++ key ∷ x ∷ [])
-push-paired [] key x h = tt
-push-paired (k ∷ []) key x h = absurd h
-push-paired (k ∷ y ∷ rest) key x h = push-paired rest key x h
+push_paired : (vs : List Value) (key x : Value) → ArePaired vs → ArePaired (vs ++ key ∷ x ∷ [])
+push_paired [] key x h = tt
+push_paired (k ∷ []) key x h = absurd h
+push_paired (k ∷ y ∷ rest) key x h = push_paired rest key x h
 
-drop-paired : (vs : List Value) (k : ℕ) → 2 * k + 1 < length vs → ArePaired vs →
+drop_paired : (vs : List Value) (k : ℕ) → 2 * k + 1 < length vs → ArePaired vs →
     ArePaired (remove (remove vs (2 * k)) (2 * k))
-drop-paired [] k l h = absurd (omega arith)
-drop-paired (y ∷ []) k l h = absurd h
-drop-paired (y ∷ z ∷ rest) zero l h = h
-drop-paired (y ∷ z ∷ rest) (suc k) l h = rw double (drop-paired rest k (omega arith) h)
+drop_paired [] k l h = absurd (omega arith)
+drop_paired (y ∷ []) k l h = absurd h
+drop_paired (y ∷ z ∷ rest) zero l h = h
+drop_paired (y ∷ z ∷ rest) (suc k) l h = rw double (drop_paired rest k (omega arith) h)
 
 -- one change of a dictionary
 leaves : (d : ℕ) (f : Rec → Rec) (r : Rec) (keys values : List Value) (h h1 : Heap) → h d ≡ Some r → Edits d f h h1 →
@@ -57,7 +57,7 @@ leaves : (d : ℕ) (f : Rec → Rec) (r : Rec) (keys values : List Value) (h h1 
     → Leaves d r keys values h h1
 leaves d f r keys values h h1 e c s p ks vs = record {
   now = f r;
-  is = ap (λ g. g d) c.1 ∙ put-here h d (f (at h d)) ∙ ap (λ q. Some (f q)) (at-is h d r e);
+  is = ap (λ g. g d) c.1 ∙ put_here h d (f (at h d)) ∙ ap (λ q. Some (f q)) (at_is h d r e);
   same = s;
   paired = p;
   first = ks;
@@ -111,7 +111,7 @@ module _ {S X : Type 0} {u : Sense S X} (L : Lawful u) where
       let c = b.2 in
       let f = L.effect (Find d key) b.0 c.0 c.1 c.2 in
       let o : c.0 ≡ find (u.heap v) r.values key = f.1 ∙ ap (λ h. find h (at h d).values key) b.1 ∙
-      ap (λ q. find (u.heap v) q.values key) (at-is (u.heap v) d r e) in
+      ap (λ q. find (u.heap v) q.values key) (at_is (u.heap v) d r e) in
       (c.1, f.2 ∙ b.1, subst (λ o. Run u (k o) c.1 res w) o c.3)
 
   -- a look at the dictionary over the same records
@@ -124,9 +124,9 @@ module _ {S X : Type 0} {u : Sense S X} (L : Lawful u) where
       let q : g.0 ≡ r = let h = sym f.0 ∙ ap (λ h. h d) s ∙ e in cc in
       (g.1, f.1 ∙ s, subst (λ q. Run u (k q) g.1 res w) q g.3)
 
-  pub hash-law : HashLaw u
+  pub hash_law_shown : HashLaw u
   unfolding get_row set_row del_row
-  hash-law = (
+  hash_law_shown = (
     λ d key v w res n g. unkeyed (Do (Find d key) (value_of_pair d)) key v w res n g,
     λ x d key v w res n g. unkeyed (Do (Find d key) (set_pair d key x)) key v w res n g,
     λ d key v w res n g. unkeyed (Do (Find d key) (drop_found d key)) key v w res n g,
@@ -140,11 +140,11 @@ module _ {S X : Type 0} {u : Sense S X} (L : Lawful u) where
   got d key r (Some i) v m w res e s f g =
       let l = looked (λ r. Ret (Is (Some (value_at r.values (2 * i + 1))))) d r v m w res e s g in
       let a = (within (u.heap v) r.values key 0 i f).1 in
-      (l.2.0 ∙ ap (λ o. Is o) (sym (half-at r.values i (omega arith))), ap u.heap l.2.1 ∙ l.1)
+      (l.2.0 ∙ ap (λ o. Is o) (sym (half_at r.values i (omega arith))), ap u.heap l.2.1 ∙ l.1)
 
-  pub get-law : GetLaw u
+  pub get_law_shown : GetLaw u
   unfolding get_row
-  get-law d key r v w res e i g =
+  get_law_shown d key r v w res e i g =
       let f = found (value_of_pair d) d key r v w res e i g in
       got d key r (find (u.heap v) r.values key) v f.0 w res e f.1 refl f.2
 
@@ -152,9 +152,9 @@ module _ {S X : Type 0} {u : Sense S X} (L : Lawful u) where
   edited : (d : ℕ) (f : Rec → Rec) (h h0 h1 : Heap) → h0 ≡ h → Edits d f h0 h1 → Edits d f h h1
   edited d f h h0 h1 e c = subst (λ h. Edits d f h h1) e c
 
-  pub set-law : SetLaw u
+  pub set_law : SetLaw u
   unfolding set_row set_pair Run
-  set-law d key x r i v w res e k p g =
+  set_law d key x r i v w res e k p g =
       let f = found (set_pair d key x) d key r v w res e k g in
       let c = subst (λ o. Run u (set_pair d key x o) f.0 res w) p f.2 in
       let a = (within (u.heap v) r.values key 0 i p).1 in
@@ -162,8 +162,8 @@ module _ {S X : Type 0} {u : Sense S X} (L : Lawful u) where
       let c1 = edited d (with_value (2 * i + 1) x) (u.heap v) (u.heap f.0) (u.heap c.1) f.1
       (L.effect (Edit d (change.Set (2 * i + 1) x)) f.0 tt c.1 c.2) in
       let l = leaves d (with_value (2 * i + 1) x) r (half false r.values) (slice_set (half true r.values) i x)
-      (u.heap v) (u.heap c.1) e c1 refl (set-paired r.values (2 * i + 1) x) (pair-law.keys_stay r i x)
-      (pair-law.value_set r i x less) in (
+      (u.heap v) (u.heap c.1) e c1 refl (set_paired r.values (2 * i + 1) x) (pair_law_shown.keys_stay r i x)
+      (pair_law_shown.value_set r i x less) in (
         c.3.0,
         subst (λ z. Leaves d r (half false r.values) (slice_set (half true r.values) i x) (u.heap v) (u.heap z))
             (sym c.3.1) l,
@@ -179,9 +179,9 @@ module _ {S X : Type 0} {u : Sense S X} (L : Lawful u) where
       let c = subst (λ o. Run u (set_pair d key x o) f.0 res w) p f.2 in
       looked (push_at d key x) d r v f.0 w res e f.1 c
 
-  pub new-law : NewLaw u
+  pub new_law : NewLaw u
   unfolding Run
-  new-law d key x r v w res e k p a less g =
+  new_law d key x r v w res e k p a less g =
       let f = pushed d key x r v w res e k p g in
       let c = subst (λ q. Run u q f.0 res w)
       (cond-true (ltb (length r.values + 1) LENGTH_LIMIT) (Do (Edit d (change.Pair key x)) (λ _. Ret (Is tt)))
@@ -190,25 +190,25 @@ module _ {S X : Type 0} {u : Sense S X} (L : Lawful u) where
       (L.effect (Edit d (change.Pair key x)) f.0 tt c.1 c.2) in
       let two = append_assoc r.values (key ∷ []) (x ∷ []) in
       let l = leaves d (with_pair key x) r (half false r.values ++ key ∷ []) (half true r.values ++ x ∷ []) (u.heap v)
-      (u.heap c.1) e c1 refl (λ a. subst ArePaired (sym two) (push-paired r.values key x a))
-      (pair-law.pair_last false r key x a) (pair-law.pair_last true r key x a) in (
+      (u.heap c.1) e c1 refl (λ a. subst ArePaired (sym two) (push_paired r.values key x a))
+      (pair_law_shown.pair_last false r key x a) (pair_law_shown.pair_last true r key x a) in (
         c.3.0,
         subst (λ z. Leaves d r (half false r.values ++ key ∷ []) (half true r.values ++ x ∷ []) (u.heap v)
             (u.heap z)) (sym c.3.1) l,
       )
 
-  pub full-law : FullLaw u
+  pub full_law : FullLaw u
   unfolding Run
-  full-law d key x r v w res e k p more g =
+  full_law d key x r v w res e k p more g =
       let f = pushed d key x r v w res e k p g in
       let c = subst (λ q. Run u q f.0 res w)
       (cond-false (ltb (length r.values + 1) LENGTH_LIMIT) (Do (Edit d (change.Pair key x)) (λ _. Ret (Is tt)))
       (Ret (Raise memory_fault)) (grind arith)) f.2 in
       (c.0, ap u.heap c.1 ∙ f.1)
 
-  pub del-law : DelLaw u
+  pub del_law : DelLaw u
   unfolding del_row drop_found Run
-  del-law d key r i v w res e k p g =
+  del_law d key r i v w res e k p g =
       let f = found (drop_found d key) d key r v w res e k g in
       let c0 = subst (λ o. Run u (drop_found d key o) f.0 res w) p f.2 in
       let n = looked (λ r. Do (Edit d (change.Unpair i)) (λ _. Ret (Is (value_at r.values (2 * i + 1))))) d r v f.0 w
@@ -219,18 +219,18 @@ module _ {S X : Type 0} {u : Sense S X} (L : Lawful u) where
       let c1 = edited d (without_pair i) (u.heap v) (u.heap n.0) (u.heap c.1) n.1
       (L.effect (Edit d (change.Unpair i)) n.0 tt c.1 c.2) in
       let l = leaves d (without_pair i) r (remove (half false r.values) i) (remove (half true r.values) i) (u.heap v)
-      (u.heap c.1) e c1 refl (drop-paired r.values i less) (pair-law.gap_closed false r i less)
-      (pair-law.gap_closed true r i less) in (
+      (u.heap c.1) e c1 refl (drop_paired r.values i less) (pair_law_shown.gap_closed false r i less)
+      (pair_law_shown.gap_closed true r i less) in (
         value_at r.values (2 * i + 1),
         c.3.0,
-        half-at r.values i less,
+        half_at r.values i less,
         subst (λ z. Leaves d r (remove (half false r.values) i) (remove (half true r.values) i) (u.heap v)
             (u.heap z)) (sym c.3.1) l,
       )
 
-  pub lack-law : LackLaw u
+  pub lack_law : LackLaw u
   unfolding del_row drop_found Run
-  lack-law d key r v w res e k p g =
+  lack_law d key r v w res e k p g =
       let f = found (drop_found d key) d key r v w res e k g in
       let c = subst (λ o. Run u (drop_found d key o) f.0 res w) p f.2 in
       (c.0, ap u.heap c.1 ∙ f.1)

@@ -20,10 +20,10 @@ use Rattle.py_data.specs.Row.{Row, Ret, Do, Edit, bind}
 use Rattle.py_data.specs.Sense.{Sense, Lawful, Run}
 use Rattle.py_data.proofs.ItemLemmas.{fit_items}
 use Rattle.py_data.proofs.Looking.{looks_read, looks_ret, looks_run}
-use Rattle.py_data.proofs.Rows.{bind-run}
+use Rattle.py_data.proofs.Rows.{bind_run}
 use Rattle.obj_seq.specs.Laws.{Leaves, Says}
 use Rattle.obj_seq.specs.Seq.{place, put_row, del_item_row}
-use Rattle.obj_seq.proofs.Leaving.{changed, looked, says, del-law}
+use Rattle.obj_seq.proofs.Leaving.{changed, looked, says, del_law}
 use Rattle.obj_ops.specs.Sequences.{values_row}
 use Rattle.obj_methods.specs.Laws.{AppendFullLaw, AppendLaw, IsSorted, RemoveLackLaw, RemoveLaw, SortLaw, SortRefusedLaw}
 use Rattle.obj_methods.specs.Lists.{append_row, append_to, done, lack_fault, put_all, remove_at, remove_row, search_row, sort_items, sort_row}
@@ -105,7 +105,7 @@ module _ {S X : Type 0} {u : Sense S X} (L : Lawful u) where
         → (m : X) × (u.heap m ≡ u.heap v) × Run u (got_row (remove_at a) (place_in (u.heap v) x 0 r.values)) m res w
     unfolding remove_row
     searched a x r v w res order e k i d =
-        let b = bind-run u (search_row a x) (got_row (remove_at a)) v res w d in
+        let b = bind_run u (search_row a x) (got_row (remove_at a)) v res w d in
         let s = looks_run u L (λ z h. z ≡ place_in (u.heap v) x 0 r.values) (search_row a x) v b.1 b.0
         (search_looks S rules (u.heap v) order x i a r e k) b.2 in
         (b.1, s.1, subst (λ z. Run u (got_row (remove_at a) z) b.1 res w) s.0 b.3)
@@ -116,10 +116,10 @@ module _ {S X : Type 0} {u : Sense S X} (L : Lawful u) where
         let s = searched a x r v w res order e list i d in
         let t : Run u (bind (del_item_row a (pos k)) (λ g. Ret (done g))) s.0 res w =
         subst (λ p. Run u (got_row (remove_at a) p) s.0 res w) (first_found (u.heap v) x r.values k f) s.2 in
-        let b = bind-run u (del_item_row a (pos k)) (λ g. Ret (done g)) s.0 res w t in
+        let b = bind_run u (del_item_row a (pos k)) (λ g. Ret (done g)) s.0 res w t in
         let at : place (pos k) (length r.values) ≡ Some k =
         cond-true (ltb k (length r.values)) (Some k) None (lt-ltb k (length r.values) f.within) in
-        let gone = del-law L a (pos k) r k s.0 b.1 b.0 (ap (λ h. h a) s.1 ∙ e) at b.2 in
+        let gone = del_law L a (pos k) r k s.0 b.1 b.0 (ap (λ h. h a) s.1 ∙ e) at b.2 in
         let left = subst (λ h. Leaves a r (take k r.values ++ drop (k + 1) r.values) h (u.heap b.1)) s.1 gone.1 in (
           b.3.0 ∙ ap done gone.0,
           subst (λ y. Leaves a r (take k r.values ++ drop (k + 1) r.values) (u.heap v)
@@ -143,11 +143,11 @@ module _ {S X : Type 0} {u : Sense S X} (L : Lawful u) where
         (got_row (put_all a) z) m res w
     unfolding sort_row sort_items
     ordered a r v w res order e k d =
-        let b = bind-run u (values_row a) (sort_items a) v res w d in
+        let b = bind_run u (values_row a) (sort_items a) v res w d in
         let s = looks_run u L (λ vs h. vs ≡ r.values) (values_row a) v b.1 b.0 (values_looks S (u.heap v) a r e) b.2 in
         let t : Run u (bind (sorted_row r.values) (got_row (put_all a))) b.1 res w =
         subst (λ vs. Run u (sort_items a vs) b.1 res w) s.0 b.3 in
-        let c = bind-run u (sorted_row r.values) (got_row (put_all a)) b.1 res w t in
+        let c = bind_run u (sorted_row r.values) (got_row (put_all a)) b.1 res w t in
         let items = subst (λ h. Every (IsItem h) r.values) (sym s.1) (list_items rules (u.heap v) a r order e k) in
         let o = looks_run u L (λ z h. Answered S h r.values z) (sorted_row r.values) b.1 c.1 c.0
         (sorted_looks S (u.heap b.1) r.values items) c.2 in
@@ -158,7 +158,7 @@ module _ {S X : Type 0} {u : Sense S X} (L : Lawful u) where
         (res ≡ Is NoneValue) × Leaves a r ys (u.heap m) (u.heap w)
     unfolding put_all Run
     put_left a r ys m w res e l d =
-        let b = bind-run u (put_row a 0 ys) (λ _. Ret (Is NoneValue)) m res w d in (
+        let b = bind_run u (put_row a 0 ys) (λ _. Ret (Is NoneValue)) m res w d in (
           b.3.0,
           subst (λ y. Leaves a r ys (u.heap m) (u.heap y)) (sym b.3.1)
               (put_leaves a 0 ys r m b.1 e (omega (arith, l)) b.2),

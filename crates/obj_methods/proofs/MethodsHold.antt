@@ -27,7 +27,7 @@ use Rattle.py_data.proofs.Holding.{holds_ret, holds_bind, holds_weaken}
 use Rattle.py_data.proofs.HoldingCalls.{holds_edit, holds_looks}
 use Rattle.py_data.proofs.ItemLemmas.{item_stays, items_stay}
 use Rattle.py_data.proofs.Looking.{looks_held, size_looks}
-use Rattle.py_data.proofs.Steps.{put-here}
+use Rattle.py_data.proofs.Steps.{put_here}
 use Rattle.obj_seq.specs.HoldsLaws.{IsListAt}
 use Rattle.obj_seq.specs.Seq.{put_row, pop_row, insert_row, del_item_row, reverse_row}
 use Rattle.obj_seq.proofs.Holding.{at_of, cond_holds, pop_holds, insert_holds, del_item_holds, reverse_holds}
@@ -260,7 +260,7 @@ module _ {S : Type 0} (rules : Rules) (stands : Heap → S → Type 0) where
       holds_edit rules stands IsAny a (change.Set k x) (λ _. put_row a (k + 1) xs) h r order e (ap is_tracked l, less)
       (subst (λ z. IsValuePlace z k) (sym l) tt) (subst (λ z. MayPut rules h a z k x) (sym l) i.0)
       (λ h1 order1 y f. put_holds a (k + 1) xs (with_value k x r) h1 order1
-      (ap (λ g. g a) f ∙ put-here h a (with_value k x r)) l (omega (arith, length-set r.values k x))
+      (ap (λ g. g a) f ∙ put_here h a (with_value k x r)) l (omega (arith, length-set r.values k x))
       (items_stay h h1 y xs i.1))
 
   put_all_holds : (a : ℕ) (r : Rec) (h : Heap) → IsOrdered rules h → h a ≡ Some r → r.kind ≡ ListKind →

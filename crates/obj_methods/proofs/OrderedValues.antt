@@ -20,7 +20,7 @@ use Rattle.py_data.specs.Every.{Every}
 use Rattle.py_data.specs.Heap.{Heap, Rec, at, value_at}
 use Rattle.py_data.specs.Shape.{KindIn}
 use Rattle.py_data.proofs.EveryLemmas.{every_weaken}
-use Rattle.py_data.proofs.Steps.{at-is}
+use Rattle.py_data.proofs.Steps.{at_is}
 use Rattle.obj_nest.specs.Laws.{IsNumber, IsString}
 use Rattle.obj_nest.proofs.NumberOrder.{number_order}
 use Rattle.obj_methods.specs.Laws.{IsSorted, is_tie, tying}
@@ -111,7 +111,7 @@ kind_at h a i = by (h a) refl i
   where
     by : (o : Option Rec) → h a ≡ o → KindIn o (λ k. k ≡ Str) → (at h a).kind ≡ Str
     by None e i = absurd i
-    by (Some r) e i = ap (λ q. q.kind) (at-is h a r e) ∙ i
+    by (Some r) e i = ap (λ q. q.kind) (at_is h a r e) ∙ i
 
 two_texts : (h : Heap) (items : List Value → List Value → Got Ordering) (a b : Addr) → (at h a.0).kind ≡ Str →
     (at h b.0).kind ≡ Str → order_by h items (Ref a) (Ref b) ≡ Is (order_bytes (at h a.0).bytes (at h b.0).bytes)

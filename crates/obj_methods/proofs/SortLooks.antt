@@ -17,7 +17,7 @@ use Rattle.py_data.specs.Looking.{Looks, kind_row, bytes_row, got_row}
 use Rattle.py_data.specs.Row.{Row, Ret}
 use Rattle.py_data.specs.Shape.{KindIn}
 use Rattle.py_data.proofs.Looking.{looks_ret, looks_then, looks_weaken, some_of, kind_looks, bytes_looks}
-use Rattle.py_data.proofs.Steps.{at-is}
+use Rattle.py_data.proofs.Steps.{at_is}
 use Rattle.obj_seq.specs.Iter.{is_str}
 use Rattle.obj_nest.specs.Laws.{IsNumber, IsString}
 use Rattle.obj_methods.specs.declared.words.Word.{Word}
@@ -78,7 +78,7 @@ module _ (S : Type 0) (h : Heap) where
       (λ bs q. looks_ret S (Told (Ref a)) (Is bs) h
       (inl (
         subst (λ o. KindIn o (λ k. k ≡ Str)) (sym e) (str_is r.kind k),
-        ap Is (q ∙ sym (ap (λ z. z.bytes) (at-is h a.0 r e))),
+        ap Is (q ∙ sym (ap (λ z. z.bytes) (at_is h a.0 r e))),
       )))
   by_looks a r false e k =
       let none : IsString h (Ref a) → ⊥ = λ i. let s : r.kind ≡ Str = subst (λ o. KindIn o (λ k. k ≡ Str)) e i in

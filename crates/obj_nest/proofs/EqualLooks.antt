@@ -18,7 +18,7 @@ use Rattle.py_data.specs.Row.{Row, Ret}
 use Rattle.py_data.specs.Order.{Rules, IsOrdered}
 use Rattle.py_data.specs.Looking.{Looks, size_row, look_row, bytes_row, until_row}
 use Rattle.py_data.proofs.HoldingCalls.{pairs_of}
-use Rattle.py_data.proofs.Steps.{at-is}
+use Rattle.py_data.proofs.Steps.{at_is}
 use Rattle.py_data.proofs.Looking.{looks_ret, looks_find, looks_then, looks_weaken, size_looks, look_looks, bytes_looks, some_of}
 use Rattle.obj_nest.specs.Levels.{below, level_row, pairing_of, kinds_row}
 use Rattle.obj_nest.specs.Equal.{Compares, is_equal, texts_row, texts_with, item_row, item_with, sized_row, items_row, items_from, found_row, sought_row, pair_row, pair_with, paired_row, pairs_row, pairs_from, methods_row, methods_with, owners_row, owner_with, by_pairing, records_row, equal_under, equal_levels}
@@ -258,9 +258,9 @@ module _ (S : Type 0) (rules : Rules) (h : Heap) (order : IsOrdered rules h) whe
           ∙ (ap (λ o. equal_kinds h pure (same_text (eqb a b) (text_by r.kind r.bytes) (text_in o)) (at h a).kind
           (at h b).kind (at h a).values (at h b).values) eb
           ∙ (ap (λ z. equal_kinds h pure (same_text (eqb a b) (text_by r.kind r.bytes) (text_by s.kind s.bytes)) z.kind
-          (at h b).kind z.values (at h b).values) (at-is h a r ea)
+          (at h b).kind z.values (at h b).values) (at_is h a r ea)
           ∙ ap (λ z. equal_kinds h pure (same_text (eqb a b) (text_by r.kind r.bytes) (text_by s.kind s.bytes)) r.kind
-          z.kind r.values z.values) (at-is h b s eb)))) in
+          z.kind r.values z.values) (at_is h b s eb)))) in
           looks_then (λ k. k ≡ pairing_of r.kind s.kind) p (kinds_row a b) (by_pairing under a b) h
           (kinds_looks S h a b r s ea eb)
           (λ k ek. subst (λ k. Looks p (by_pairing under a b k) h) (sym ek)

@@ -20,7 +20,7 @@ use Rattle.py_data.specs.Comparing.{Under, is_same, equal_by, equal_items, equal
 use Rattle.py_data.specs.Order.{Rules, IsOrdered}
 use Rattle.py_data.proofs.EveryLemmas.{every_weaken}
 use Rattle.py_data.proofs.ItemLemmas.{fit_items, item_at}
-use Rattle.py_data.proofs.Steps.{at-is}
+use Rattle.py_data.proofs.Steps.{at_is}
 use Rattle.py_data.proofs.Looking.{some_of}
 use Rattle.obj_nest.specs.Laws.{EqualLaw}
 use Rattle.obj_nest.proofs.KeyLemmas.{key_same, key_trans, key_turned}
@@ -150,7 +150,7 @@ str_at h a cs e = by (h a) refl e
   where
     by : (o : Option Rec) → h a ≡ o → text_in o ≡ Some cs → (at h a).kind ≡ Str
     by None q e = absurd (let q : ◌≡◌ {A = Option (List ℕ)} None (Some cs) = e in cc)
-    by (Some r) q e = ap (λ z. z.kind) (at-is h a r q) ∙ str_kind r.kind r.bytes cs e
+    by (Some r) q e = ap (λ z. z.kind) (at_is h a r q) ∙ str_kind r.kind r.bytes cs e
 
 kind_congr : (h : Heap) (a b : ℕ) (x y : Option (List ℕ)) → text_in (h a) ≡ x → text_in (h b) ≡ y →
     same_text (eqb a b) x y ≡ true → (at h a).kind ≡ (at h b).kind
@@ -175,9 +175,9 @@ module _ (rules : Rules) (h : Heap) (order : IsOrdered rules h) where
       by : (o : Option Rec) → h a ≡ o → ArePairs h (at h a).values × Apart h (at h a).values
       by None q = absurd (let w : Str ≡ Dict = sym (ap (λ o. (unwrap_or o blank).kind) q) ∙ e in cc)
       by (Some r) q =
-          let k : r.kind ≡ Dict = sym (ap (λ z. z.kind) (at-is h a r q)) ∙ e in
+          let k : r.kind ≡ Dict = sym (ap (λ z. z.kind) (at_is h a r q)) ∙ e in
           let shape = subst (λ k. HasShape h k r.values) k (order.each a r q).closed.shaped.0 in
-          subst (λ z. ArePairs h z.values × Apart h z.values) (sym (at-is h a r q))
+          subst (λ z. ArePairs h z.values × Apart h z.values) (sym (at_is h a r q))
           (shape.0, are_apart h r.values shape.0 shape.1)
 
   -- ---- symmetric
@@ -408,7 +408,7 @@ module _ (rules : Rules) (h : Heap) (order : IsOrdered rules h) where
     fine_by (Ref a) i =
         let r = some_of (h a.0) i.0 in
         subst (λ q. Fine (equal_kinds h under (same_key h (Ref a) (Ref a)) q.kind q.kind q.values q.values))
-        (sym (at-is h a.0 r.0 r.1)) (kind_fine a r.0 r.1 i.1 r.0.kind refl)
+        (sym (at_is h a.0 r.0 r.1)) (kind_fine a r.0 r.1 i.1 r.0.kind refl)
     fine_by Unset i = inl (ap Is (key_same h Unset i.1))
     fine_by NoneValue i = inl (ap Is (key_same h NoneValue i.1))
     fine_by (BoolValue b) i = inl (ap Is (key_same h (BoolValue b) i.1))

@@ -8,7 +8,7 @@ use Rattle.py_data.specs.Fault.{depth_fault}
 use Rattle.py_data.specs.Heap.{Heap}
 use Rattle.py_data.specs.Row.{Row}
 use Rattle.py_data.specs.Sense.{Sense, Safe, Meets}
-use Rattle.py_data.proofs.Rows.{meets-answer}
+use Rattle.py_data.proofs.Rows.{meets_answer}
 use Rattle.obj_nest.specs.Levels.{below, level_row}
 use Rattle.obj_nest.specs.Ordering.{Parts, parts_below, parts_at}
 
@@ -22,7 +22,7 @@ module _ {S A U : Type 0} (g : U → Row S (Got A)) (o : Option U) where
       MatchResult res (λ g. g ≡ Raise depth_fault) (λ e. e ≡ OutOfMemory) → Meets s (level_row o g) v v res
   unfolding level_row
   no_level s e v res m = subst (λ o. Meets s (level_row o g) v v res) (sym e)
-      (meets-answer s (Raise depth_fault) v res m)
+      (meets_answer s (Raise depth_fault) v res m)
 
 module _ {U : Type 0} (f : Option U → U) where
   below_none : (n : ℕ) → n ≡ 0 → below f n ≡ None

@@ -19,7 +19,7 @@ use Rattle.py_data.specs.Comparing.{number_of, order_numbers, order_bytes, order
 use Rattle.py_data.specs.Row.{Ret}
 use Rattle.py_data.specs.Order.{Rules, IsOrdered}
 use Rattle.py_data.specs.Looking.{Looks, size_row, look_row, bytes_row, until_row, got_row}
-use Rattle.py_data.proofs.Steps.{at-is}
+use Rattle.py_data.proofs.Steps.{at_is}
 use Rattle.py_data.proofs.Looking.{looks_ret, looks_then, looks_weaken, size_looks, look_looks, bytes_looks, some_of}
 use Rattle.obj_nest.specs.Levels.{level_row, pairing_of, kinds_row}
 use Rattle.obj_nest.specs.Ordering.{Parts, strings_row, bytes_with, deciding, unequal_row, decided_row, turn_with, turn_row, is_open, by_lengths, shared_row, listed_from, listed_row, ordered_by, ranked_row, order_under, parts_below, parts_at, order_levels}
@@ -219,8 +219,8 @@ module _ (S : Type 0) (rules : Rules) (h : Heap) (order : IsOrdered rules h) whe
             let p = λ (z : Got Ordering). z ≡ order_by h items (Ref (record { 0 = a })) (Ref (record { 0 = b })) in
             let q : order_records items r.kind s.kind r s ≡ order_by h items (Ref (record { 0 = a }))
             (Ref (record { 0 = b })) =
-            sym (ap (λ z. order_records items z.kind (at h b).kind z (at h b)) (at-is h a r ea) ∙
-            ap (λ z. order_records items r.kind z.kind r z) (at-is h b s eb)) in
+            sym (ap (λ z. order_records items z.kind (at h b).kind z (at h b)) (at_is h a r ea) ∙
+            ap (λ z. order_records items r.kind z.kind r z) (at_is h b s eb)) in
             looks_then (λ k. k ≡ pairing_of r.kind s.kind) p (kinds_row a b) (ordered_by under a b) h
             (kinds_looks S h a b r s ea eb)
             (λ k ek. subst (λ k. Looks p (ordered_by under a b k) h) (sym ek)

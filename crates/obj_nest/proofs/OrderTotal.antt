@@ -17,7 +17,7 @@ use Rattle.py_data.specs.declared.record.Got.TheVariants.{Is}
 use Rattle.py_data.specs.Heap.{Rec, Heap, at}
 use Rattle.py_data.specs.Shape.{bit, same_key, same_text, same_bytes, text_by, text_in, KindIn}
 use Rattle.py_data.specs.Comparing.{Under, equal, equal_by, equal_kinds, equal_within, order, order_by, order_bytes, order_records, order_within, number_of}
-use Rattle.py_data.proofs.Steps.{at-is}
+use Rattle.py_data.proofs.Steps.{at_is}
 use Rattle.obj_nest.specs.Laws.{IsNumber, IsString, TotalLaw}
 use Rattle.obj_nest.proofs.NumberOrder.{number_order}
 
@@ -128,8 +128,8 @@ module _ (h : Heap) (a b : Addr) (r s : Rec) (ea : h a.0 ≡ Some r) (eb : h b.0
   two_texts : (items : List Value → List Value → Got Ordering) →
       order_by h items (Ref a) (Ref b) ≡ Is (order_bytes r.bytes s.bytes)
   two_texts items =
-      ap (λ q. order_records items q.kind (at h b.0).kind q (at h b.0)) (at-is h a.0 r ea) ∙
-      (ap (λ q. order_records items r.kind q.kind r q) (at-is h b.0 s eb)
+      ap (λ q. order_records items q.kind (at h b.0).kind q (at h b.0)) (at_is h a.0 r ea) ∙
+      (ap (λ q. order_records items r.kind q.kind r q) (at_is h b.0 s eb)
       ∙ (ap (λ k. order_records items k s.kind r s) kr ∙ ap (λ k. order_records items Str k r s) ks))
 
   texts_ordered : (d : ℕ) → order_within h d (Ref a) (Ref b) ≡ Is (order_bytes r.bytes s.bytes)
@@ -142,8 +142,8 @@ module _ (h : Heap) (a b : Addr) (r s : Rec) (ea : h a.0 ≡ Some r) (eb : h b.0
       let vs = (at h a.0).values in
       let ws = (at h b.0).values in
       let key = same_key h (Ref a) (Ref b) in
-      ap (λ q. equal_kinds h under key q.kind (at h b.0).kind vs ws) (at-is h a.0 r ea) ∙
-      (ap (λ q. equal_kinds h under key r.kind q.kind vs ws) (at-is h b.0 s eb)
+      ap (λ q. equal_kinds h under key q.kind (at h b.0).kind vs ws) (at_is h a.0 r ea) ∙
+      (ap (λ q. equal_kinds h under key r.kind q.kind vs ws) (at_is h b.0 s eb)
       ∙ (ap (λ k. equal_kinds h under key k s.kind vs ws) kr ∙
       (ap (λ k. equal_kinds h under key Str k vs ws) ks ∙ ap Is key_text)))
     where

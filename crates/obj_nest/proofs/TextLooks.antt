@@ -24,7 +24,7 @@ use Rattle.py_data.specs.Order.{Rules, IsOrdered}
 use Rattle.py_data.specs.Looking.{Looks, size_row, look_row, bytes_row, each_row, got_row, kind_row}
 use Rattle.py_data.proofs.HoldingCalls.{pairs_of}
 use Rattle.py_data.proofs.Looking.{looks_ret, looks_then, looks_weaken, size_looks, look_looks, bytes_looks, some_of, kind_looks}
-use Rattle.py_data.proofs.Steps.{at-is}
+use Rattle.py_data.proofs.Steps.{at_is}
 use Rattle.obj_nest.specs.Levels.{below, level_row}
 use Rattle.obj_nest.specs.Text.{Writes, spelling, alone_by_kind, alone_within, leaf_text, spaced, part_row, mapped_row, keyed_row, couple_row, closed_row, parts_row, list_row, tuple_close, tuple_row, dict_row, string_row, name_row, name_by, named_row, between_row, quoted_row, plain_text, other_text, kind_text, record_row, write_under, write_levels, repr_row, alone_by, alone_at, alone_row}
 use Rattle.obj_nest.proofs.Dropped.{drop_here, there_at, half_more}
@@ -243,7 +243,7 @@ module _ (S : Type 0) (rules : Rules) (h : Heap) (order : IsOrdered rules h) whe
   string_looks (Ref a) i =
       let r = some_of (h a.0) i in
       looks_weaken (λ b. b ≡ r.0.bytes) (λ b. b ≡ bytes_of h (Ref a))
-      (λ b e. e ∙ sym (ap (λ q. q.bytes) (at-is h a.0 r.0 r.1))) (bytes_row a.0) h (bytes_looks S h a.0 r.0 r.1)
+      (λ b e. e ∙ sym (ap (λ q. q.bytes) (at_is h a.0 r.0 r.1))) (bytes_row a.0) h (bytes_looks S h a.0 r.0 r.1)
   string_looks Unset i = looks_ret S (λ b. b ≡ []) [] h refl
   string_looks NoneValue i = looks_ret S (λ b. b ≡ []) [] h refl
   string_looks (BoolValue b) i = looks_ret S (λ b. b ≡ []) [] h refl
@@ -256,7 +256,7 @@ module _ (S : Type 0) (rules : Rules) (h : Heap) (order : IsOrdered rules h) whe
   name_looks a r e =
       let p = λ (b : List ℕ). b ≡ name_of h (Ref (record { 0 = a })) in
       let q : bytes_of h (value_at r.values 0) ≡ name_of h (Ref (record { 0 = a })) =
-      sym (ap (λ q. bytes_of h (value_at q.values 0)) (at-is h a r e)) in
+      sym (ap (λ q. bytes_of h (value_at q.values 0)) (at_is h a r e)) in
       looks_then (λ x. x ≡ value_at r.values 0) p (look_row a 0) (λ x. string_row x) h (look_looks S h a r e 0)
       (λ x ex. subst (λ x. Looks {S = S} p (string_row x) h) (sym ex)
       (looks_weaken (λ b. b ≡ bytes_of h (value_at r.values 0)) p (λ b e. e ∙ q) (string_row (value_at r.values 0))
@@ -369,7 +369,7 @@ module _ (S : Type 0) (rules : Rules) (h : Heap) (order : IsOrdered rules h) whe
       record_looks =
           let p = λ (z : Got (List ℕ)). z ≡ Behind out (repr_by spelling h pure (Ref (record { 0 = a }))) in
           let q = sym (ap (λ z. Behind out (record_text spelling h pure (Ref (record { 0 = a })) z.kind z))
-          (at-is h a r e)) in
+          (at_is h a r e)) in
           looks_then (λ k. k ≡ r.kind) p (kind_row a) (λ k. kind_text under a out k) h (kind_looks S h a r e)
           (λ k ek. subst (λ k. Looks p (kind_text under a out k) h) (sym ek)
           (looks_weaken (λ z. z ≡ Behind out (record_text spelling h pure (Ref (record { 0 = a })) r.kind r)) p
@@ -421,7 +421,7 @@ module _ (S : Type 0) (rules : Rules) (h : Heap) (order : IsOrdered rules h) whe
       unfolding alone_at
       alone_at_looks =
           let p = λ (z : Got (List ℕ)). z ≡ alone_within h d (Ref (record { 0 = a })) in
-          let q = sym (ap (λ z. alone_by_kind h d (Ref (record { 0 = a })) z.kind z) (at-is h a r e)) in
+          let q = sym (ap (λ z. alone_by_kind h d (Ref (record { 0 = a })) z.kind z) (at_is h a r e)) in
           looks_then (λ k. k ≡ r.kind) p (kind_row a) (λ k. alone_by d a k) h (kind_looks S h a r e)
           (λ k ek. subst (λ k. Looks {S = S} p (alone_by d a k) h) (sym ek)
           (looks_weaken (λ z. z ≡ alone_by_kind h d (Ref (record { 0 = a })) r.kind r) p (λ z e. e ∙ q)

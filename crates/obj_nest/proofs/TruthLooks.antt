@@ -12,7 +12,7 @@ use Rattle.py_data.specs.Row.{Ret}
 use Rattle.py_data.specs.Order.{Rules, IsOrdered}
 use Rattle.py_data.specs.Looking.{Looks, look_row, kind_row}
 use Rattle.py_data.specs.Truth.{truth, truth_by, has_item}
-use Rattle.py_data.proofs.Steps.{at-is}
+use Rattle.py_data.proofs.Steps.{at_is}
 use Rattle.py_data.proofs.Looking.{looks_ret, looks_read, looks_then, looks_weaken, look_looks, some_of, kind_looks}
 use Rattle.std.specs.Prelude.{nat_lt, length}
 use Rattle.obj_nest.specs.Truth.{bytes_filled, values_filled, range_filled, stop_with, step_with, filled_by, filled_row, plain_truth, truth_row}
@@ -89,7 +89,7 @@ module _ (S : Type 0) (rules : Rules) (h : Heap) (order : IsOrdered rules h) whe
   truth_at_looks (Ref a) i =
       let r = some_of (h a.0) i in
       looks_weaken (λ z. z ≡ truth_by r.0.kind r.0.values r.0.bytes) (λ z. z ≡ truth h (Ref a))
-      (λ z e. e ∙ sym (ap (λ q. truth_by q.kind q.values q.bytes) (at-is h a.0 r.0 r.1))) (filled_row a.0) h
+      (λ z e. e ∙ sym (ap (λ q. truth_by q.kind q.values q.bytes) (at_is h a.0 r.0 r.1))) (filled_row a.0) h
       (filled_looks a.0 r.0 r.1)
   truth_at_looks Unset i = looks_ret S (λ z. z ≡ truth h Unset) (plain_truth Unset) h refl
   truth_at_looks NoneValue i = looks_ret S (λ z. z ≡ truth h NoneValue) (plain_truth NoneValue) h refl

@@ -15,7 +15,7 @@ use Rattle.py_data.specs.Sense.{Sense, Lawful, Run}
 use Rattle.py_data.specs.Looking.{bytes_row}
 use Rattle.py_data.proofs.FloorDivision.{divides}
 use Rattle.py_data.proofs.Same.{one_rec}
-use Rattle.py_data.proofs.Steps.{put-here}
+use Rattle.py_data.proofs.Steps.{put_here}
 use Rattle.obj_str.specs.Strings.{new_text}
 use Rattle.obj_ops.specs.Numbers.{is_narrow, narrowed, divided, calculated, zero_fault, overflow_fault}
 use Rattle.obj_ops.specs.Sequences.{values_row, made_row, new_items, joined_with, joined_items, joined_text_with, joined_texts}
@@ -62,7 +62,7 @@ module _ {S X : Type 0} (u : Sense S X) (L : Lawful u) where
   made_is q n w y true d =
       let f = L.effect (Make q) n d.0 d.1 d.2 in
       let e : Is y ≡ Is (Ref (record { 0 = d.0 })) = d.3.0 in
-      (d.0, cc, ap (λ h. h d.0) (ap u.heap d.3.1 ∙ f.1) ∙ put-here (u.heap n) d.0 q)
+      (d.0, cc, ap (λ h. h d.0) (ap u.heap d.3.1 ∙ f.1) ∙ put_here (u.heap n) d.0 q)
   made_is q n w y false d = absurd (let e : Is y ≡ Raise memory_fault = d.0 in cc)
 
   pub join_law : JoinLaw u

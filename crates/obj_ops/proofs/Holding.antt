@@ -32,7 +32,7 @@ use Rattle.py_data.proofs.ItemLemmas.{item_at, item_stays, items_stay, fit_items
 use Rattle.py_data.proofs.Keep.{kind_stays}
 use Rattle.py_data.proofs.Looking.{looks_ret, looks_then, looks_held, size_looks, look_looks}
 use Rattle.py_data.proofs.Making.{sequence_fits}
-use Rattle.py_data.proofs.Steps.{put-here}
+use Rattle.py_data.proofs.Steps.{put_here}
 use Rattle.obj_seq.specs.Gather.{gather_row}
 use Rattle.obj_seq.proofs.HoldingGather.{gather_holds}
 use Rattle.obj_dict.specs.Dict.{get_row}
@@ -335,7 +335,7 @@ module _ {S : Type 0} (rules : Rules) (stands : Heap → S → Type 0) where
   push_holds a (x ∷ xs) r h order e k l i =
       holds_edit rules stands IsAny a (change.Push x) (λ _. push_row a xs) h r order e (k, omega (arith, l)) tt i.0
       (λ h1 order1 y f. push_holds a xs (after (change.Push x) r) h1 order1
-      (ap (λ g. g a) f ∙ put-here h a (after (change.Push x) r)) k
+      (ap (λ g. g a) f ∙ put_here h a (after (change.Push x) r)) k
       (omega (arith, l, length-append r.values (x ∷ []))) (items_stay h h1 y xs i.1))
 
   pushed_holds : (a : ℕ) (vs : List Value) (r : Rec) (h : Heap) → IsOrdered rules h → h a ≡ Some r → r.kind ≡ ListKind

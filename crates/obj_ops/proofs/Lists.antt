@@ -9,8 +9,8 @@ use Rattle.py_data.specs.Heap.{Rec, at, value_at}
 use Rattle.py_data.specs.Row.{Row, Read}
 use Rattle.py_data.specs.Sense.{Sense, Lawful, Meets}
 use Rattle.py_data.specs.inner.Rest.{Stands}
-use Rattle.py_data.proofs.Rows.{meets-own}
-use Rattle.py_data.proofs.Steps.{stands-again, as-err}
+use Rattle.py_data.proofs.Rows.{meets_own}
+use Rattle.py_data.proofs.Steps.{stands_again, as_err}
 
 module _ {T : Type 0} where
   repeat_none : (n : ℕ) → repeat {A = T} n [] ≡ []
@@ -39,12 +39,12 @@ module _ {T : Type 0} where
 module _ {S X : Type 0} (u : Sense S X) where
   pub looked_again : (L : Lawful u) {a : ℕ} {r q : Rec} {v w x : X} → Stands u a r v → w ≡ v → u.does (Read a) w q x →
       x ≡ v
-  looked_again L {a = a} {r = r} {q = q} h e d = stands-again L q (subst (Stands u a r) (sym e) h) d ∙ e
+  looked_again L {a = a} {r = r} {q = q} h e d = stands_again L q (subst (Stands u a r) (sym e) h) d ∙ e
 
   pub starved_again : {A : Type 0} (row : Row S A) (v w : X) (res : Result A Stop) → w ≡ v →
       IsErrAnd res (λ e. e ≡ OutOfMemory) → Meets u row v w res
-  starved_again row v w res e h = subst (λ r. Meets u row v w r) (sym (as-err res OutOfMemory h))
-      (subst (λ z. Meets u row v z (Err OutOfMemory)) (sym e) (meets-own u row v))
+  starved_again row v w res e h = subst (λ r. Meets u row v w r) (sym (as_err res OutOfMemory h))
+      (subst (λ z. Meets u row v z (Err OutOfMemory)) (sym e) (meets_own u row v))
 
   pub value_before : (a : ℕ) (v w : X) (x : Value) (i : ℕ) → w ≡ v → x ≡ value_at (at (u.heap w) a).values i →
       x ≡ value_at (at (u.heap v) a).values i

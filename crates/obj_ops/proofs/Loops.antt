@@ -10,7 +10,7 @@ use Rattle.py_data.specs.Row.{Do, Edit}
 use Rattle.py_data.specs.Looking.{until_row, each_row}
 use Rattle.py_data.specs.Sense.{Sense, Safe, Meets, IsLive}
 use Rattle.py_data.specs.inner.Rest.{Leads}
-use Rattle.py_data.proofs.Steps.{leads-begin, leads-ret}
+use Rattle.py_data.proofs.Steps.{leads_begin, leads_ret}
 use Rattle.obj_ops.specs.declared.format.Piece.{Piece}
 use Rattle.obj_ops.specs.declared.format.Piece.TheVariants.{Byte, Number, Text, Unknown}
 use Rattle.obj_ops.specs.InPlace.{push_row}
@@ -30,7 +30,7 @@ module _ {S X : Type 0} {u : Sense S X} where
     pub push_last : (i : ℕ) → length vs ≤ i → Leads u (push_row {S = S} a vs) v (push_row a (drop i vs)) w →
         Meets u (push_row {S = S} a vs) v w (Ok tt)
     unfolding push_row
-    push_last i l h = leads-ret (subst (λ xs. Leads u (push_row {S = S} a vs) v (push_row a xs) w)
+    push_last i l h = leads_ret (subst (λ xs. Leads u (push_row {S = S} a vs) v (push_row a xs) w)
         (drop_of_length-le vs l) h)
 
   -- ---- items that are compared
@@ -40,7 +40,7 @@ module _ {S X : Type 0} {u : Sense S X} where
   items_begin x a n v s l =
       let e : n - 0 ≡ n = omega arith in
       subst (λ m. Leads u (items_row {S = S} x a n) v (until_row (item_row x a) goes_on (Is false) 0 m) v) (sym e)
-      (leads-begin u (items_row {S = S} x a n) v s l)
+      (leads_begin u (items_row {S = S} x a n) v s l)
 
   -- ---- pieces that are written
   pub pieces_begin : (roots : ℕ) (ps : List Piece) (args : List Value) (n : ℕ) (out : List ℕ) (v : X) → n ≡ length ps →
@@ -54,7 +54,7 @@ module _ {S X : Type 0} {u : Sense S X} where
       (each_row (λ i. piece_row roots args (piece_at ps i)) 0 m out) v) (sym e)
       (subst (λ t. Leads u (pieces_row {S = S} roots ps args) v
       (each_row (λ i. piece_row roots args (piece_at ps i)) 0 (length ps) t) v) (sym o)
-      (leads-begin u (pieces_row {S = S} roots ps args) v s l))
+      (leads_begin u (pieces_row {S = S} roots ps args) v s l))
 
 -- ---- how many arguments the pieces take
 pub asked_more : (ps : List Piece) (i all t : ℕ) (d : Piece) → i < length ps → t ≡ takes (get_or ps i d) →

@@ -10,34 +10,34 @@ use Rattle.py_data.specs.Heap.{Rec, at, value_at}
 use Rattle.py_data.specs.Row.{Row, Read}
 use Rattle.py_data.specs.Sense.{Sense, Lawful, Meets}
 use Rattle.py_data.specs.inner.Rest.{Stands}
-use Rattle.py_data.proofs.Rows.{meets-own}
-use Rattle.py_data.proofs.Steps.{stands-again, as-err}
+use Rattle.py_data.proofs.Rows.{meets_own}
+use Rattle.py_data.proofs.Steps.{stands_again, as_err}
 use Rattle.obj_seq.specs.Seq.{part}
 
-pub part-next : (xs : List Value) (i k : ℕ) (x : Value) → i ≤ k → k < length xs → x ≡ value_at xs k →
+pub part_next : (xs : List Value) (i k : ℕ) (x : Value) → i ≤ k → k < length xs → x ≡ value_at xs k →
     part xs i (k + 1) ≡ part xs i k ++ x ∷ []
-part-next xs i k x l h e =
+part_next xs i k x l h e =
     let n : k + 1 - i ≡ k - i + 1 = omega arith in
     let m : i + (k - i) ≡ k = omega arith in
     let inside : k - i < length (drop i xs) = omega (arith, length-drop i xs) in
     rw (n, e) (take_more (drop i xs) (k - i) Unset inside ∙
     ap (λ y. take (k - i) (drop i xs) ++ y ∷ []) (get_or-drop i xs (k - i) Unset ∙ ap (λ j. get_or xs j Unset) m))
 
-pub part-same : (xs : List Value) (i j k : ℕ) → k - i ≡ j - i → part xs i k ≡ part xs i j
-part-same xs i j k e = ap (λ n. take n (drop i xs)) e
+pub part_same : (xs : List Value) (i j k : ℕ) → k - i ≡ j - i → part xs i k ≡ part xs i j
+part_same xs i j k e = ap (λ n. take n (drop i xs)) e
 
 module _ {S X : Type 0} (u : Sense S X) where
   -- a further look, while the view is as it was
-  pub looked-again : (L : Lawful u) {a : ℕ} {r q : Rec} {v w x : X} → Stands u a r v → w ≡ v → u.does (Read a) w q x →
+  pub looked_again : (L : Lawful u) {a : ℕ} {r q : Rec} {v w x : X} → Stands u a r v → w ≡ v → u.does (Read a) w q x →
       x ≡ v
-  looked-again L {a = a} {r = r} {q = q} h e d = stands-again L q (subst (Stands u a r) (sym e) h) d ∙ e
+  looked_again L {a = a} {r = r} {q = q} h e d = stands_again L q (subst (Stands u a r) (sym e) h) d ∙ e
 
   -- no memory of its own, while the view is as it was
-  pub starved-again : {A : Type 0} (row : Row S A) (v w : X) (res : Result A Stop) → w ≡ v →
+  pub starved_again : {A : Type 0} (row : Row S A) (v w : X) (res : Result A Stop) → w ≡ v →
       IsErrAnd res (λ e. e ≡ OutOfMemory) → Meets u row v w res
-  starved-again row v w res e h = subst (λ r. Meets u row v w r) (sym (as-err res OutOfMemory h))
-      (subst (λ z. Meets u row v z (Err OutOfMemory)) (sym e) (meets-own u row v))
+  starved_again row v w res e h = subst (λ r. Meets u row v w r) (sym (as_err res OutOfMemory h))
+      (subst (λ z. Meets u row v z (Err OutOfMemory)) (sym e) (meets_own u row v))
 
-  pub value-before : (a : ℕ) (v w : X) (x : Value) (i : ℕ) → w ≡ v → x ≡ value_at (at (u.heap w) a).values i →
+  pub value_before : (a : ℕ) (v w : X) (x : Value) (i : ℕ) → w ≡ v → x ≡ value_at (at (u.heap w) a).values i →
       x ≡ value_at (at (u.heap v) a).values i
-  value-before a v w x i e h = subst (λ z. x ≡ value_at (at (u.heap z) a).values i) e h
+  value_before a v w x i e h = subst (λ z. x ≡ value_at (at (u.heap z) a).values i) e h

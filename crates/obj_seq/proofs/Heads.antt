@@ -19,7 +19,7 @@ use Rattle.obj_seq.specs.declared.advance.Ahead.{Ahead}
 use Rattle.obj_seq.specs.declared.advance.Ahead.TheVariants.{Text, Changed, Item}
 use Rattle.obj_seq.specs.Iter.{three, pick, has_changed, is_str, go_or_end, byte_or_end, next_over}
 use Rattle.obj_seq.specs.inner.Heads.{three_in, ahead_of, ahead_row}
-use Rattle.obj_seq.proofs.AfterLook.{leads-looked, looked-record}
+use Rattle.obj_seq.proofs.AfterLook.{leads_looked, looked_record}
 
 -- the look tells whether there are three values, and which
 pub three_of_head : (r : Rec) → three_in (head_of r) ≡ three r.values
@@ -54,18 +54,18 @@ module _ {h : Head} (r : Rec) (place count : ℕ) (is : h ≡ head_of r) where
 -- the value at a place, by a second look
 module _ {S X : Type 0} {u : Sense S X} (L : Lawful u) {a : ℕ} {v m : X} {h : Head}
     (looked : u.does (Read a) v (at (u.heap v) a) m) (is : h ≡ head_of (at (u.heap v) a)) (i : ℕ) where
-  pub item-there : {x : X} {q : Rec} (y : Value) → u.does (Read a) m q x → y ≡ value_at (at (u.heap m) a).values i →
+  pub item_there : {x : X} {q : Rec} (y : Value) → u.does (Read a) m q x → y ≡ value_at (at (u.heap m) a).values i →
       i < h.count → u.does (Read a) v (at (u.heap v) a) x
       × (Item (Some y) ≡ Item (slice_get (at (u.heap v) a).values i))
-  item-there {x = x} {q = q} y d e less =
+  item_there {x = x} {q = q} y d e less =
       let less1 : i < length (at (u.heap v) a).values = subst (λ z. i < z.count) is less in (
         subst (λ z. u.does (Read a) v (at (u.heap v) a) z) (sym (again L a v m x (at (u.heap v) a) q looked d)) looked,
-        ap (λ z. Item (Some z)) (e ∙ ap (λ r. value_at r.values i) (looked-record L looked refl)) ∙
+        ap (λ z. Item (Some z)) (e ∙ ap (λ r. value_at r.values i) (looked_record L looked refl)) ∙
             ap Item (sym (slice_get-get_or (at (u.heap v) a).values i Unset less1)),
       )
 
-  pub item-past : h.count ≤ i → Item None ≡ Item (slice_get (at (u.heap v) a).values i)
-  item-past le = ap Item (sym (slice_get_past (at (u.heap v) a).values i (subst (λ z. z.count ≤ i) is le)))
+  pub item_past : h.count ≤ i → Item None ≡ Item (slice_get (at (u.heap v) a).values i)
+  item_past le = ap Item (sym (slice_get_past (at (u.heap v) a).values i (subst (λ z. z.count ≤ i) is le)))
 
 -- an iterator's step, by what the look tells
 by_tests : {S : Type 0} (it at : ℕ) (byte : Option ℕ) (x : Option Value) (s c : Bool) →
@@ -85,21 +85,21 @@ module _ {S X : Type 0} {u : Sense S X} (L : Lawful u) {a : ℕ} {v m : X} (it p
     (looked : u.does (Read a) v (at (u.heap v) a) m)
     (is : o ≡ ahead_of (at (u.heap v) a).kind (at (u.heap v) a).values place count)
     (safe : Safe {S = S} u.partial (Do (Read a) (next_over it place count)) (u.heap v)) (live : IsLive u v) where
-  row-leads : {x : X} (b : Option ℕ) (p : Ahead) → x ≡ m → b ≡ slice_get (at (u.heap v) a).bytes place → o ≡ p →
+  row_leads : {x : X} (b : Option ℕ) (p : Ahead) → x ≡ m → b ≡ slice_get (at (u.heap v) a).bytes place → o ≡ p →
       Leads u (Do (Read a) (next_over {S = S} it place count)) v (ahead_row it place b p) x
-  row-leads b p same e f =
-      leads-looked L looked same (next_over it place count) (λ r. ahead_row it place b p) safe live
+  row_leads b p same e f =
+      leads_looked L looked same (next_over it place count) (λ r. ahead_row it place b p) safe live
       (by_ahead it place count (at (u.heap v) a) ∙
       ap (λ z. ahead_row it place (slice_get (at (u.heap v) a).bytes place) z) (sym is ∙ f) ∙
       ap (λ z. ahead_row it place z p) (sym e))
 
-  pub text-leads : {x : X} {q : Rec} (b : Option ℕ) → o ≡ Text → u.does (Read a) m q x →
+  pub text_leads : {x : X} {q : Rec} (b : Option ℕ) → o ≡ Text → u.does (Read a) m q x →
       b ≡ slice_get (at (u.heap m) a).bytes place
       → Leads u (Do (Read a) (next_over {S = S} it place count)) v (byte_or_end it place b) x
-  text-leads {x = x} {q = q} b f d e =
-      row-leads b Text (again L a v m x (at (u.heap v) a) q looked d)
-      (e ∙ ap (λ r. slice_get r.bytes place) (looked-record L looked refl)) f
+  text_leads {x = x} {q = q} b f d e =
+      row_leads b Text (again L a v m x (at (u.heap v) a) q looked d)
+      (e ∙ ap (λ r. slice_get r.bytes place) (looked_record L looked refl)) f
 
-  pub item-leads : (y : Option Value) → o ≡ Item y →
+  pub item_leads : (y : Option Value) → o ≡ Item y →
       Leads u (Do (Read a) (next_over {S = S} it place count)) v (go_or_end it place y) m
-  item-leads y f = row-leads (slice_get (at (u.heap v) a).bytes place) (Item y) refl refl f
+  item_leads y f = row_leads (slice_get (at (u.heap v) a).bytes place) (Item y) refl refl f

@@ -26,11 +26,11 @@ use Rattle.py_data.proofs.Holding.{holds_ret, holds_bind}
 use Rattle.py_data.proofs.HoldingCalls.{holds_read, holds_edit, holds_make}
 use Rattle.py_data.proofs.ItemLemmas.{item_at, item_stays, items_stay, fit_items}
 use Rattle.py_data.proofs.Making.{sequence_fits}
-use Rattle.py_data.proofs.Steps.{put-here}
+use Rattle.py_data.proofs.Steps.{put_here}
 use Rattle.obj_seq.specs.Seq.{place, if_place, bound, bound_or, part, put_row, gap_row, shift_row, item_row, set_item_row, set_item_at, del_item_row, del_item_at, pop_row, pop_at, insert_row, insert_at, reverse_row, slice_row, slice_at}
 use Rattle.obj_seq.specs.Seq as seq
 use Rattle.obj_seq.specs.HoldsLaws.{IsListAt, IsSequenceAt}
-use Rattle.obj_seq.proofs.Leaving.{place-within, bound-within}
+use Rattle.obj_seq.proofs.Leaving.{place_within, bound_within}
 
 -- ---- the record at an address
 pub record At (h : Heap) (a : ℕ) (P : Kind → Type 0) : Type 0 where
@@ -104,7 +104,7 @@ module _ {S : Type 0} (rules : Rules) (stands : Heap → S → Type 0) where
   set_holds p a k x rest r h order e l w i n =
       holds_edit rules stands p a (change.Set k x) rest h r order e (ap is_tracked l, w)
       (subst (λ z. IsValuePlace z k) (sym l) tt) (subst (λ z. MayPut rules h a z k x) (sym l) i)
-      (λ h1 order1 y f. n h1 order1 y (ap (λ g. g a) f ∙ put-here h a (with_value k x r)))
+      (λ h1 order1 y f. n h1 order1 y (ap (λ g. g a) f ∙ put_here h a (with_value k x r)))
 
   put_holds : (a k : ℕ) (xs : List Value) (r : Rec) (h : Heap) → IsOrdered rules h → h a ≡ Some r → r.kind ≡ ListKind →
       k + length xs ≤ length r.values → Every (IsItem h) xs → Holds rules stands IsLeft (put_row a k xs) h
@@ -146,7 +146,7 @@ module _ {S : Type 0} (rules : Rules) (stands : Heap → S → Type 0) where
       holds_read rules stands IsAnswer a (seq.item_at i) h r t.here
       (placed_holds IsAnswer (place i (length r.values)) (λ k. Ret (Is (value_at r.values k))) (Raise index_fault) h
       (λ k f. holds_ret rules stands IsAnswer (Is (value_at r.values k)) h
-      (item_at h r.values k (place-within i (length r.values) k f) (are_items rules h a r order t.here t.kind)))
+      (item_at h r.values k (place_within i (length r.values) k f) (are_items rules h a r order t.here t.kind)))
       (lit< tt, lit< tt, tt))
 
   pub set_item_holds : (h : Heap) (a : ℕ) (i : ℤ) (x : Value) → IsOrdered rules h → IsListAt h a → IsItem h x →
@@ -157,7 +157,7 @@ module _ {S : Type 0} (rules : Rules) (stands : Heap → S → Type 0) where
       holds_read rules stands IsDone a (set_item_at a i x) h r t.here
       (placed_holds IsDone (place i (length r.values)) (λ k. Do (Edit a (change.Set k x)) (λ _. Ret (Is tt)))
       (Raise index_fault) h
-      (λ k f. set_holds IsDone a k x (λ _. Ret (Is tt)) r h order t.here t.kind (place-within i (length r.values) k f)
+      (λ k f. set_holds IsDone a k x (λ _. Ret (Is tt)) r h order t.here t.kind (place_within i (length r.values) k f)
       ix (λ h1 order1 y g. holds_ret rules stands IsDone (Is tt) h1 tt))
       (lit< tt, lit< tt, tt))
 
@@ -177,7 +177,7 @@ module _ {S : Type 0} (rules : Rules) (stands : Heap → S → Type 0) where
       (placed_holds IsDone (place i (length r.values))
       (λ k. bind (gap_row a k (drop (k + 1) r.values)) (λ _. Ret (Is tt))) (Raise index_fault) h
       (λ k f. then_holds IsDone (gap_row a k (drop (k + 1) r.values)) (Is tt) h order
-      (closed_holds a k r h order t.here t.kind (place-within i (length r.values) k f)) (λ h1 y. tt))
+      (closed_holds a k r h order t.here t.kind (place_within i (length r.values) k f)) (λ h1 y. tt))
       (lit< tt, lit< tt, tt))
 
   pub pop_holds : (h : Heap) (a : ℕ) (i : ℤ) → IsOrdered rules h → IsListAt h a →
@@ -188,7 +188,7 @@ module _ {S : Type 0} (rules : Rules) (stands : Heap → S → Type 0) where
       let row : ℕ → Row S (Got Value) = λ k.
       bind (gap_row a k (drop (k + 1) r.values)) (λ _. Ret (Is (value_at r.values k))) in
       let popped : (k : ℕ) → place i (length r.values) ≡ Some k → Holds rules stands IsAnswer (row k) h = λ k f.
-      let w = place-within i (length r.values) k f in
+      let w = place_within i (length r.values) k f in
       then_holds IsAnswer (gap_row a k (drop (k + 1) r.values)) (Is (value_at r.values k)) h order
       (closed_holds a k r h order t.here t.kind w)
       (λ h1 y. item_stays h h1 y (value_at r.values k)
@@ -212,7 +212,7 @@ module _ {S : Type 0} (rules : Rules) (stands : Heap → S → Type 0) where
       (cond_holds IsDone (ltb (length r.values) LENGTH_LIMIT) (bind row (λ _. Ret (Is tt))) (Ret (Raise memory_fault)) h
       (λ room. then_holds IsDone row (Is tt) h order
       (shift_holds a k x (drop k r.values) r h order t.here t.kind (ltb-true (length r.values) LENGTH_LIMIT room)
-      (omega (arith, bound-within i (length r.values), length-drop (bound i (length r.values)) r.values)) ix items)
+      (omega (arith, bound_within i (length r.values), length-drop (bound i (length r.values)) r.values)) ix items)
       (λ h1 y. tt))
       (λ full. holds_ret rules stands IsDone (Raise memory_fault) h (lit< tt, lit< tt, tt)))
 

@@ -23,7 +23,7 @@ use Rattle.py_data.proofs.HoldingCalls.{holds_read, holds_edit, holds_make}
 use Rattle.py_data.proofs.ItemLemmas.{item_stays, fit_items}
 use Rattle.py_data.proofs.Keep.{kind_stays}
 use Rattle.py_data.proofs.Making.{made_fits, text_fits}
-use Rattle.py_data.proofs.Steps.{put-here}
+use Rattle.py_data.proofs.Steps.{put_here}
 use Rattle.obj_seq.specs.declared.advance.Parts.{Parts}
 use Rattle.obj_seq.specs.declared.span.Span.{Span}
 use Rattle.py_data.specs.Range.{range_length, range_item}
@@ -112,7 +112,7 @@ module _ {S : Type 0} (rules : Rules) (stands : Heap → S → Type 0) where
       (λ b. iter_fits h b a n k i)
       (λ b h1 order1 x g item.
       holds_ret rules stands (IsGot IsIterator) (Is (Ref (record { 0 = b }))) h1
-      (item, subst (λ o. KindIn o (λ k. k ≡ Iter)) (sym (ap (λ z. z b) g ∙ put-here h b q)) refl))
+      (item, subst (λ o. KindIn o (λ k. k ≡ Iter)) (sym (ap (λ z. z b) g ∙ put_here h b q)) refl))
 
   over_iter_holds : (a : ℕ) (r : Rec) (h : Heap) → h a ≡ Some r → IsItem h (Ref (record { 0 = a })) →
       Holds rules stands (IsGot IsIterator) (iter_of a r) h

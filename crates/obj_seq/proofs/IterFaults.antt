@@ -65,20 +65,20 @@ module _ {S X : Type 0} {u : Sense S X} (L : Lawful u) where
   at_record a v w res n d = let f = L.effect (Read a) v d.0 d.1 d.2 in
       says L a (iter_of a) d.0 (Raise iterable_fault) res v w f.0 (n d.0 f.0) d
 
-  pub no-iter-law : NoIterLaw u
-  no-iter-law (Ref a) v w res n m d =
+  pub no_iter_law : NoIterLaw u
+  no_iter_law (Ref a) v w res n m d =
       at_record a.0 v w res
       (λ r e. no_iter a.0 r (λ i. n (subst (λ o. KindIn o (λ k. is_iterable k ≡ true)) (sym e) i))
       (λ i. m (subst (λ o. KindIn o (λ k. k ≡ Iter)) (sym e) i))) d
-  no-iter-law Unset v w res n m d = raised v w res d
-  no-iter-law NoneValue v w res n m d = raised v w res d
-  no-iter-law (BoolValue b) v w res n m d = raised v w res d
-  no-iter-law (Int i) v w res n m d = raised v w res d
-  no-iter-law (Builtin b) v w res n m d = raised v w res d
+  no_iter_law Unset v w res n m d = raised v w res d
+  no_iter_law NoneValue v w res n m d = raised v w res d
+  no_iter_law (BoolValue b) v w res n m d = raised v w res d
+  no_iter_law (Int i) v w res n m d = raised v w res d
+  no_iter_law (Builtin b) v w res n m d = raised v w res d
 
-  pub size-law : SizeLaw u
+  pub size_law : SizeLaw u
   unfolding next_with
-  size-law it d at count q r v w res e f g k n s =
+  size_law it d at count q r v w res e f g k n s =
       let l = looked L it (λ q. next_with it (parts_of q.values)) q v w res e s in
       let t = subst (λ vs. Run u (next_with {S = S} it (parts_of vs)) l.0 res w) f l.2 in
       let z = says L d (next_over it at count) r (Raise size_fault) res l.0 w (ap (λ h. h d) l.1 ∙ g)

@@ -10,10 +10,10 @@ use Rattle.py_data.specs.Row.{Row, Ret, Do, Read}
 use Rattle.py_data.specs.inner.Rest.{Stands, Leads}
 use Rattle.py_data.specs.Sense.{Sense, Lawful, Asks, Meets, Safe, IsLive, Run, Stopped}
 use Rattle.py_data.specs.Looking.{bytes_row}
-use Rattle.py_data.proofs.Rows.{read-heap, read-at, again, meets-do, meets-ret}
-use Rattle.py_data.proofs.Steps.{stands-again, stands-read, there-is}
+use Rattle.py_data.proofs.Rows.{read_heap, read_at, again, meets_do, meets_ret}
+use Rattle.py_data.proofs.Steps.{stands_again, stands_read, there_is}
 use Rattle.py_data.specs.Fault.{argument_fault}
-use Rattle.obj_seq.proofs.AfterLook.{looked-record, leads-looked}
+use Rattle.obj_seq.proofs.AfterLook.{looked_record, leads_looked}
 use Rattle.obj_seq.specs.Iter.{is_str}
 use Rattle.obj_str.specs.Methods.{text_in, text_at}
 
@@ -24,18 +24,18 @@ pub bytes_met : {S X : Type 0} {u : Sense S X} (L : Lawful u) (a n : ℕ) (v m w
 unfolding bytes_row
 bytes_met {u = u} L a n v m w got out d e f o g =
     let r = at (u.heap v) a in
-    let same : at (u.heap m) a ≡ r = ap (λ h. at h a) (read-heap L a v m r d) in
+    let same : at (u.heap m) a ≡ r = ap (λ h. at h a) (read_heap L a v m r d) in
     let still : w ≡ m = again L a v m w r (at (u.heap m) a) d f in
     let all : got ≡ r.bytes = g ∙ (o ∙ (ap (λ q. take n q.bytes) same ∙
     (ap (λ k. take k r.bytes) e ∙ take-length r.bytes))) in
-    meets-do u (Read a) (λ r. Ret r.bytes) v m w r (Ok got) d
+    meets_do u (Read a) (λ r. Ret r.bytes) v m w r (Ok got) d
     (subst (λ z. Meets u (Ret r.bytes) m z (Ok got)) (sym still)
-    (subst (λ b. Meets u (Ret r.bytes) m m (Ok b)) (sym all) (meets-ret u r.bytes m)))
+    (subst (λ b. Meets u (Ret r.bytes) m m (Ok b)) (sym all) (meets_ret u r.bytes m)))
 
 stands_asks : {S X : Type 0} (u : Sense S X) (a : ℕ) (v : X) (r : Rec) → Stands u a r v →
     Asks {S = S} u.partial (Read a) (u.heap v)
 unfolding Asks
-stands_asks u a v r s = there-is (u.heap v) a r u.partial (λ r. Unit {0}) s.is tt
+stands_asks u a v r s = there_is (u.heap v) a r u.partial (λ r. Unit {0}) s.is tt
 
 -- the bytes of a record that was looked at before
 module _ {S X : Type 0} {u : Sense S X} (L : Lawful u) (a : ℕ) (v : X) (stands : Stands u a (at (u.heap v) a) v) where
@@ -48,12 +48,12 @@ module _ {S X : Type 0} {u : Sense S X} (L : Lawful u) (a : ℕ) (v : X) (stands
   unfolding Meets Run Stopped bytes_row
   bytes_again w (Ok got) m =
       let answer : (got ≡ m.0.bytes) × (w ≡ m.1) = m.3 in
-      (answer.0 ∙ ap (λ r. r.bytes) (sym (read-at L a v m.1 m.0 m.2)), answer.1 ∙ stands-again L m.0 stands m.2)
+      (answer.0 ∙ ap (λ r. r.bytes) (sym (read_at L a v m.1 m.0 m.2)), answer.1 ∙ stands_again L m.0 stands m.2)
   bytes_again w (Err e) m = elim m [
     | inl starved ↦ starved
     | inr more ↦ elim more [
       | inl refused ↦ absurd (L.sure a v e w stands.seen refused)
-      | inr d ↦ let end : (e ≡ OutOfMemory) × (w ≡ d.1) = d.3 in (end.0, end.1 ∙ stands-again L d.0 stands d.2)
+      | inr d ↦ let end : (e ≡ OutOfMemory) × (w ≡ d.1) = d.3 in (end.0, end.1 ∙ stands_again L d.0 stands d.2)
     ]
   ]
 
@@ -83,18 +83,18 @@ module _ {S X : Type 0} {u : Sense S X} (L : Lawful u) (a : ℕ) (v m : X)
   -- a string has a text
   pub text_told : Meets u (text_at {S = S} a) v m (Ok (Is (at (u.heap v) a).bytes))
   unfolding text_at
-  text_told = meets-do u (Read a) text_in v m m (at (u.heap v) a) (Ok (Is (at (u.heap v) a).bytes)) looked
+  text_told = meets_do u (Read a) text_in v m m (at (u.heap v) a) (Ok (Is (at (u.heap v) a).bytes)) looked
       (subst (λ row. Meets u row m m (Ok (Is (at (u.heap v) a).bytes))) (sym str_in)
-      (meets-ret u (Is (at (u.heap v) a).bytes) m))
+      (meets_ret u (Is (at (u.heap v) a).bytes) m))
 
   text_leads : Safe u.partial (text_at {S = S} a) (u.heap v) → IsLive u v →
       Leads u (text_at a) v (Ret (Is (at (u.heap m) a).bytes)) m
   unfolding text_at
-  text_leads safe live = leads-looked L looked refl text_in (λ r. Ret (Is r.bytes)) safe live str_in
+  text_leads safe live = leads_looked L looked refl text_in (λ r. Ret (Is r.bytes)) safe live str_in
 
   -- it stands where it was looked at
   pub text_stands : Stands u a (at (u.heap m) a) m
-  text_stands = subst (λ r. Stands u a r m) (sym (looked-record L looked refl)) (stands-read L (at (u.heap v) a) looked)
+  text_stands = subst (λ r. Stands u a r m) (sym (looked_record L looked refl)) (stands_read L (at (u.heap v) a) looked)
 
   pub text_met : Safe u.partial (text_at {S = S} a) (u.heap v) → IsLive u v → (w : X) (got : List ℕ) →
       Meets u (bytes_row {S = S} a) m w (Ok got) → Meets u (text_at a) v w (Ok (Is got))

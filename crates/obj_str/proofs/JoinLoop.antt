@@ -14,8 +14,8 @@ use Rattle.py_data.specs.Looking.{got_row}
 use Rattle.py_data.specs.inner.Rest.{Leads}
 use Rattle.py_data.specs.Row.{Row, Ret, bind}
 use Rattle.py_data.specs.Sense.{Sense, Lawful, Safe, IsLive, Meets}
-use Rattle.py_data.proofs.Rows.{meets-answer}
-use Rattle.py_data.proofs.Steps.{leads-begin, leads-call, leads-call-stop, leads-ret, safe-first}
+use Rattle.py_data.proofs.Rows.{meets_answer}
+use Rattle.py_data.proofs.Steps.{leads_begin, leads_call, leads_call_stop, leads_ret, safe_first}
 use Rattle.obj_str.specs.Adding.{Adds}
 use Rattle.obj_str.specs.Cutting.{fitting, fitted_row, more_of, has_none}
 use Rattle.obj_str.specs.Methods.{text_item, texts_then, texts_row, piece_row, strings_then, method_row}
@@ -85,7 +85,7 @@ module _ {S X : Type 0} {u : Sense S X} where
       Joining u sep (texts_row sep vs) v vs text true v
   join_begin sep vs v text e s l = record {
     ps = [];
-    leads = leads-begin u (texts_row sep vs) v s l;
+    leads = leads_begin u (texts_row sep vs) v s l;
     is = e;
     none =
         refl;
@@ -99,23 +99,23 @@ module _ {S X : Type 0} {u : Sense S X} where
     join_leads = subst (λ l. Leads u row v (texts_then (whole_text sep) l j.ps) w) split j.leads
 
     pub join_safe : Safe u.partial (text_item {S = S} x) (u.heap w)
-    join_safe = safe-first u.partial (text_item x) (got_row (λ p. texts_then (whole_text sep) more (j.ps ++ p ∷ [])))
+    join_safe = safe_first u.partial (text_item x) (got_row (λ p. texts_then (whole_text sep) more (j.ps ++ p ∷ [])))
         (u.heap w) join_leads.safe
 
     pub join_stop : (y : X) (e : Stop) → Meets u (text_item {S = S} x) w y (Err e) → Meets u row v y (Err e)
-    join_stop y e m = leads-call-stop (text_item x) (got_row (λ p. texts_then (whole_text sep) more (j.ps ++ p ∷ [])))
+    join_stop y e m = leads_call_stop (text_item x) (got_row (λ p. texts_then (whole_text sep) more (j.ps ++ p ∷ [])))
         y e join_leads m
 
     pub join_raise : (L : Lawful u) (y : X) (e : Fault) → Meets u (text_item {S = S} x) w y (Ok (Raise e)) →
         Meets u row v y (Ok (Raise e))
-    join_raise L y e m = leads-ret (leads-call L (text_item x)
+    join_raise L y e m = leads_ret (leads_call L (text_item x)
         (got_row (λ p. texts_then (whole_text sep) more (j.ps ++ p ∷ []))) y (Raise e) join_leads m)
 
     pub join_turn : (L : Lawful u) (between : List ℕ) (y : X) (longer : Option (List ℕ)) → between ≡ cond first [] sep
         → Adds u between text x w y (Ok (Is longer)) → Joining u sep row v more longer false y
     join_turn L between y longer b a = record {
       ps = j.ps ++ a.0 ∷ [];
-      leads = leads-call L (text_item x) (got_row (λ p. texts_then (whole_text sep) more (j.ps ++ p ∷ []))) y (Is a.0)
+      leads = leads_call L (text_item x) (got_row (λ p. texts_then (whole_text sep) more (j.ps ++ p ∷ []))) y (Is a.0)
           join_leads a.1;
       is = a.2 ∙ (ap (λ z. more_of z text a.0) (b ∙ ap (λ t. cond t [] sep) j.none) ∙
           (ap (λ z. more_of (cond (has_none j.ps) [] sep) z a.0) j.is ∙ added sep j.ps a.0));
@@ -144,14 +144,14 @@ module _ {S X : Type 0} {u : Sense S X} {row : Row S (Got Value)} {v w : X} (k :
   made_leads = subst (λ l. Leads u row v (strings_then k l vs) w) pieces leads
 
   pub made_safe : Safe u.partial (piece_row {S = S} p) (u.heap w)
-  made_safe = safe-first u.partial (piece_row p) (λ x. strings_then k qs (vs ++ x ∷ [])) (u.heap w) made_leads.safe
+  made_safe = safe_first u.partial (piece_row p) (λ x. strings_then k qs (vs ++ x ∷ [])) (u.heap w) made_leads.safe
 
   pub made_stop : (y : X) (e : Stop) → Meets u (piece_row {S = S} p) w y (Err e) → Meets u row v y (Err e)
-  made_stop y e m = leads-call-stop (piece_row p) (λ x. strings_then k qs (vs ++ x ∷ [])) y e made_leads m
+  made_stop y e m = leads_call_stop (piece_row p) (λ x. strings_then k qs (vs ++ x ∷ [])) y e made_leads m
 
   pub made_turn : (L : Lawful u) (y : X) (x : Value) → Meets u (piece_row {S = S} p) w y (Ok x) →
       Leads u row v (strings_then k qs (vs ++ x ∷ [])) y
-  made_turn L y x m = leads-call L (piece_row p) (λ x. strings_then k qs (vs ++ x ∷ [])) y x made_leads m
+  made_turn L y x m = leads_call L (piece_row p) (λ x. strings_then k qs (vs ++ x ∷ [])) y x made_leads m
 
   -- and put behind the others
   pub made_more : (L : Lawful u) (y : X) (x : Value) (all : List Value) → Meets u (piece_row {S = S} p) w y (Ok x) →
@@ -196,4 +196,4 @@ pub other_met : {S X : Type 0} (u : Sense S X) (m a : ℕ) (args : List Value) (
 other_met {S = S} u m a args v res join split strip upper lower begins ends find replace r =
     subst (λ row. Meets u row v v res) (sym
     (other_row S m a args join split strip upper lower begins ends find replace))
-    (meets-answer u (Raise operand_fault) v res r)
+    (meets_answer u (Raise operand_fault) v res r)

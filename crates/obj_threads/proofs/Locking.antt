@@ -16,9 +16,9 @@ use Rattle.py_data.specs.Row.{Call, Reply, Row, Ret, Do, Read, Find, Edit, Make,
 use Rattle.py_data.specs.Sense.{Sense, Lawful, Effect, Run}
 use Rattle.py_data.proofs.Grow.{with_rec_here, with_rec_there}
 use Rattle.py_data.proofs.OnlyLooks.{OnlyLooks}
-use Rattle.py_data.proofs.Rows.{bind-run}
+use Rattle.py_data.proofs.Rows.{bind_run}
 use Rattle.py_data.proofs.Same.{one_rec}
-use Rattle.py_data.proofs.Steps.{at-is}
+use Rattle.py_data.proofs.Steps.{at_is}
 use Rattle.obj_class.specs.Bases.{ref}
 use Rattle.obj_nest.specs.Truth.{truth_row}
 use Rattle.obj_threads.specs.declared.answer.Answer.{Answer}
@@ -118,7 +118,7 @@ module _ {S X : Type 0} (u : Sense S X) (L : Lawful u) where
         let q = after c l.lock in
         let now : u.heap w ≡ put_at h a q = ap u.heap d.3.1 ∙
         (f.1 ∙ (ap (λ g. put_at g a (after c (at g a))) e ∙
-        ap (λ r. put_at h a (after c r)) (at-is h a l.lock l.here))) in (
+        ap (λ r. put_at h a (after c r)) (at_is h a l.lock l.here))) in (
           d.3.0,
           record {
             lock = record {
@@ -163,7 +163,7 @@ module _ {S X : Type 0} (u : Sense S X) (L : Lawful u) where
   unfolding acquire_by held_row Run
   held_some a h l x v w y e d =
       let n = acquire_on a h true l (Some x) v w y e d in
-      let b = bind-run u (truth_row x) (λ b. Ret (held_answer b)) n.from y w n.run in (
+      let b = bind_run u (truth_row x) (λ b. Ret (held_answer b)) n.from y w n.run in (
         subst (λ z. z ≡ Is Waits ⊎ z ≡ answered (BoolValue false)) (sym b.3.0) (waits_or_not b.0),
         ap u.heap b.3.1 ∙
             (only_same (truth_row x) n.from b.1 b.0 (only_truth S x) b.2 ∙ n.same),

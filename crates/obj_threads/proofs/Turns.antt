@@ -5,7 +5,7 @@ use Rattle.py_data.specs.declared.value.Value.{Value}
 use Rattle.py_data.specs.Looking.{each_row}
 use Rattle.py_data.specs.inner.Rest.{Leads}
 use Rattle.py_data.specs.Sense.{Sense, Safe, IsLive}
-use Rattle.py_data.proofs.Steps.{leads-begin}
+use Rattle.py_data.proofs.Steps.{leads_begin}
 use Rattle.obj_threads.specs.declared.keywords.Keywords.{Keywords}
 use Rattle.obj_threads.specs.Keywords.{keyword_row, keywords_row, no_keywords}
 
@@ -17,4 +17,4 @@ keywords_begin {S} {X} {u} keys n v k c o s l =
     let e : n - 0 ≡ length keys / 2 = omega (arith, c) in
     subst (λ m. Leads u (keywords_row {S = S} keys) v (each_row (keyword_row keys) 0 m k) v) (sym e)
     (subst (λ t. Leads u (keywords_row {S = S} keys) v (each_row (keyword_row keys) 0 (length keys / 2) t) v) (sym o)
-    (leads-begin u (keywords_row {S = S} keys) v s l))
+    (leads_begin u (keywords_row {S = S} keys) v s l))

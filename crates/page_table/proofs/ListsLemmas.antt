@@ -7,7 +7,7 @@ use Rattle.page_table.specs.Reserving.{TakesAgain, TakesNew}
 use Rattle.page_table.specs.Lists.{Sheet, Lists, word_at, word_in, sheet_in, word_over, has_page, sheet_at, shelf_at, table_of}
 use Rattle.page_table.specs.inner.Sound.{IsSound}
 use Rattle.page_table.specs.inner.Spreading.{HasWords, Spread}
-use Rattle.page_table.proofs.Spans.{put_here, same_at_all, in_or_out, over_in, over_out, over_itself, word_at-replicate}
+use Rattle.page_table.proofs.Spans.{put_here, same_at_all, in_or_out, over_in, over_out, over_itself, word_at_replicate}
 use Rattle.page_table.proofs.SheetLemmas.{push_seen}
 
 -- pages in memory, by their parts
@@ -286,7 +286,7 @@ new_pages segments pages i j shared sheets shelves a b c d e = (
 )
   where
     blank : (p : ℕ) → word_at (0 ∷ 0 ∷ []) p ≡ 0
-    blank p = word_at-replicate 2 p
+    blank p = word_at_replicate 2 p
 
     words : ◌≡◌ {A = ℕ → ℕ} (word_at shared) (λ p. 0)
     words = same_at_all _ _ (λ p. ap (λ z. word_at z p) a ∙ blank p)

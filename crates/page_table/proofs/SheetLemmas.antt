@@ -8,19 +8,19 @@ use Rattle.std.specs.List.{slice_range, slice_get}
 use Rattle.std.specs.Option.{unwrap_or}
 use Rattle.page_table.specs.Pages.{put, over}
 use Rattle.page_table.specs.Lists.{Sheet, word_at, word_in, sheet_in, word_over, has_page, IsRun}
-use Rattle.page_table.proofs.Spans.{put_here, put_elsewhere, same_at_all, in_or_out, over_in, over_out, over_same, over_then, word_at-slice_range}
+use Rattle.page_table.proofs.Spans.{put_here, put_elsewhere, same_at_all, in_or_out, over_in, over_out, over_same, over_then, word_at_slice_range}
 
-pub sheet_in-set : (pages : List (Option (List ℕ))) (q : ℕ) (page : Option (List ℕ)) → q < length pages
+pub sheet_in_set : (pages : List (Option (List ℕ))) (q : ℕ) (page : Option (List ℕ)) → q < length pages
     → sheet_in (set pages q page) ≡ put q page (sheet_in pages)
 unfolding sheet_in
-sheet_in-set pages q page within = same_at_all _ _ (λ r. elim (eqb_tells r q) [
+sheet_in_set pages q page within = same_at_all _ _ (λ r. elim (eqb_tells r q) [
   | inl h ↦ rw (h.0, h.1) (get_or-set_same pages q page None within)
   | inr h ↦ rw h.0 (get_or-set_other pages q r page None h.1)
 ])
 
-pub sheet_in-none : (pages : List (Option (List ℕ))) → sheet_in (pages ++ None ∷ []) ≡ sheet_in pages
+pub sheet_in_none : (pages : List (Option (List ℕ))) → sheet_in (pages ++ None ∷ []) ≡ sheet_in pages
 unfolding sheet_in
-sheet_in-none pages = same_at_all _ _ (λ q. go pages q)
+sheet_in_none pages = same_at_all _ _ (λ q. go pages q)
   where
     go : (pages : List (Option (List ℕ))) (q : ℕ) → get_or (pages ++ None ∷ []) q None ≡ get_or pages q None
     go [] zero = refl
@@ -87,7 +87,7 @@ page_changed pages q x old page has read is =
     let within = has_within pages q has in
     let was : sheet_in pages q ≡ Some old = read_page pages q x within read ∙ is in
     let sheet : sheet_in (set pages q (Some page)) ≡ put q (Some page) (sheet_in pages) =
-    sheet_in-set pages q (Some page) within in
+    sheet_in_set pages q (Some page) within in
     record { was = was; sheet = sheet; own = ap has_page sheet ∙ own_changed (sheet_in pages) q old page was }
 
 -- the word at a place that is in page q, and at one that isn't
@@ -227,7 +227,7 @@ pub words_of_part : (sheet : Sheet) (place n : ℕ) (below : ℕ → ℕ) (page 
     → sheet (place / 512) ≡ Some page → (i : ℕ) → i < n
     → word_at (slice_range page (place % 512) (place % 512 + n)) i ≡ word_over sheet below (place + i)
 words_of_part sheet place n below page within is i small =
-    word_at-slice_range page (place % 512) (place % 512 + n) i (omega (arith, small))
+    word_at_slice_range page (place % 512) (place % 512 + n) i (omega (arith, small))
     ∙ ap (word_at page) (omega (arith, small, within))
     ∙ sym (word_of_page sheet below (place + i) (Some page)
     (ap sheet (let e : (place + i) / 512 ≡ place / 512 = omega (arith, small, within) in e) ∙ is))
@@ -246,7 +246,7 @@ pub run_below : (sheet : Sheet) (place n : ℕ) (shared : List ℕ) → place % 
     → IsRun (word_over sheet (word_at shared)) place n (slice_range shared place (place + n))
 run_below sheet place n shared within inside lacks = record {
   count = length-between shared place (place + n) inside ∙ omega arith;
-  each = λ i h. word_at-slice_range shared place (place + n) i (omega (arith, h))
+  each = λ i h. word_at_slice_range shared place (place + n) i (omega (arith, h))
       ∙ sym (words_below sheet place n (word_at shared) within lacks (place + i) (omega arith) (omega (arith, h)));
 }
 

@@ -75,10 +75,10 @@ over_then place i n f g = same_at_all _ _ (λ p. at p)
     ]
 
 -- words that were copied over others, from a place on
-pub word_at-put_mid : (at k : ℕ) (xs ys : List ℕ) → at + k ≤ length xs → length ys ≡ k
+pub word_at_put_mid : (at k : ℕ) (xs ys : List ℕ) → at + k ≤ length xs → length ys ≡ k
     → word_at (put_mid at k xs ys) ≡ over at k (λ p. word_at ys (p - at)) (word_at xs)
 unfolding word_at
-word_at-put_mid at k xs ys within len = same_at_all _ _ (λ p. here p)
+word_at_put_mid at k xs ys within len = same_at_all _ _ (λ p. here p)
   where
     front : length (take at xs) ≡ at
     front = length-take-le at xs (omega (arith, within))
@@ -106,9 +106,9 @@ word_at-put_mid at k xs ys within len = same_at_all _ _ (λ p. here p)
           ∙ sym (over_out at k (λ p. get_or ys (p - at) 0) (λ p. get_or xs p 0) p (inl a.1))
     ]
 
-pub word_at-set : (ws : List ℕ) (q w : ℕ) → q < length ws → word_at (set ws q w) ≡ put q w (word_at ws)
+pub word_at_set : (ws : List ℕ) (q w : ℕ) → q < length ws → word_at (set ws q w) ≡ put q w (word_at ws)
 unfolding word_at
-word_at-set ws q w within = same_at_all _ _ (λ r. elim (eqb_tells r q) [
+word_at_set ws q w within = same_at_all _ _ (λ r. elim (eqb_tells r q) [
   | inl h ↦ rw (h.0, h.1) (get_or-set_same ws q w 0 within)
   | inr h ↦ rw h.0 (get_or-set_other ws q r w 0 h.1)
 ])
@@ -116,24 +116,24 @@ word_at-set ws q w within = same_at_all _ _ (λ r. elim (eqb_tells r q) [
 pub copied : (at k : ℕ) (xs ys zs : List ℕ) → at + length ys ≤ length xs → zs ≡ ys → k ≡ length ys
     → word_at (put_mid at k xs zs) ≡ over at (length ys) (λ p. word_at ys (p - at)) (word_at xs)
 copied at k xs ys zs within e f =
-    word_at-put_mid at k xs zs (omega (arith, within, f)) (ap (λ (z : List ℕ). length z) e ∙ sym f)
+    word_at_put_mid at k xs zs (omega (arith, within, f)) (ap (λ (z : List ℕ). length z) e ∙ sym f)
     ∙ ap (λ z. over at k (λ p. word_at z (p - at)) (word_at xs)) e
     ∙ ap (λ n. over at n (λ p. word_at ys (p - at)) (word_at xs)) f
 
 pub set_in : (xs ys : List ℕ) (i w : ℕ) → xs ≡ ys → i < length xs → word_at (set xs i w) ≡ put i w (word_at ys)
-set_in xs ys i w e within = word_at-set xs i w within ∙ ap (λ z. put i w (word_at z)) e
+set_in xs ys i w e within = word_at_set xs i w within ∙ ap (λ z. put i w (word_at z)) e
 
-pub word_at-replicate : (n i : ℕ) → word_at (replicate n 0) i ≡ 0
+pub word_at_replicate : (n i : ℕ) → word_at (replicate n 0) i ≡ 0
 unfolding word_at
-word_at-replicate zero i = refl
-word_at-replicate (suc n) zero = refl
-word_at-replicate (suc n) (suc i) = word_at-replicate n i
+word_at_replicate zero i = refl
+word_at_replicate (suc n) zero = refl
+word_at_replicate (suc n) (suc i) = word_at_replicate n i
 
 -- words of a part of a list
-pub word_at-slice_range : (ws : List ℕ) (from to i : ℕ) → from + i < to
+pub word_at_slice_range : (ws : List ℕ) (from to i : ℕ) → from + i < to
     → word_at (slice_range ws from to) i ≡ word_at ws (from + i)
 unfolding word_at
-word_at-slice_range ws from to i h = get_or-between ws from to i 0 h
+word_at_slice_range ws from to i h = get_or-between ws from to i 0 h
 
 pub word_past : (ws : List ℕ) (i : ℕ) → length ws ≤ i → word_at ws i ≡ 0
 unfolding word_at
@@ -158,8 +158,8 @@ pub copied_page : (ws zeros page : List ℕ) (q from to : ℕ) → from ≡ min 
     (word_at zeros) → (i : ℕ) → i < 512 → word_at page i ≡ word_at ws (512 * q + i)
 copied_page ws zeros page q from to f t blank is i small = ap (λ g. g i) is
     ∙ copied_part ws (slice_range ws from to) zeros q from to f t
-    (λ i. ap (λ z. word_at z i) blank ∙ word_at-replicate 512 i) (length-between ws from to (omega (arith, t)))
-    (word_at-slice_range ws from to) i small
+    (λ i. ap (λ z. word_at z i) blank ∙ word_at_replicate 512 i) (length-between ws from to (omega (arith, t)))
+    (word_at_slice_range ws from to) i small
 
 -- what stands in a span is all that counts
 pub over_same : (place n : ℕ) (f g h : ℕ → ℕ) → ((p : ℕ) → place ≤ p → p < place + n → f p ≡ g p)
@@ -176,7 +176,7 @@ over_there place n f g e = sym (over_itself place n g) ∙ sym (over_same place 
 -- a part of a list, at the places at which it stood
 pub part_words : (ws : List ℕ) (place n p : ℕ) → place ≤ p → p < place + n
     → word_at (slice_range ws place (place + n)) (p - place) ≡ word_at ws p
-part_words ws place n p a b = word_at-slice_range ws place (place + n) (p - place) (omega (arith, a, b))
+part_words ws place n p a b = word_at_slice_range ws place (place + n) (p - place) (omega (arith, a, b))
     ∙ ap (word_at ws) (omega (arith, a))
 
 -- words that are copied to where they stood in another list
@@ -197,7 +197,7 @@ unfolding word_at
 zeros_after ws n = same_at_all _ _ (λ p. elim (leb_tells (suc p) (length ws)) [
   | inl a ↦ get_or_append_left ws (replicate n 0) 0 p (omega (arith, a.1))
   | inr a ↦ get_or-append_right ws (replicate n 0) (length ws) p 0 refl (omega (arith, a.1))
-      ∙ word_at-replicate n (p - length ws) ∙ sym (get_or_past ws p 0 (omega (arith, a.1)))
+      ∙ word_at_replicate n (p - length ws) ∙ sym (get_or_past ws p 0 (omega (arith, a.1)))
 ])
 
 -- words that are 0 were added, or none

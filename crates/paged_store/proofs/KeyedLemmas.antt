@@ -14,7 +14,7 @@ use Rattle.py_data.specs.Shape.{ArePairs, KeysDiffer, HasShape, IsShaped}
 use Rattle.py_data.proofs.Grow.{for_tracked}
 use Rattle.py_data.proofs.PairLists.{pairs_last, differ_last, pairs_gone, differ_gone, pairs_set, differ_set}
 use Rattle.py_data.proofs.Same.{one_rec}
-use Rattle.py_data.proofs.Steps.{at-is}
+use Rattle.py_data.proofs.Steps.{at_is}
 use Rattle.dict_index.specs.Laws.{KeepsFixed}
 use Rattle.dict_index.proofs.Kept.{pairs_kept}
 use Rattle.seg_store.specs.Meaning.{Part, Meaning, over, overlay, sees, saw, holds, with_part}
@@ -266,7 +266,7 @@ module _ (m : Meaning) (k a : ℕ) (c : Change) (can : CanChange (sees m k) a c)
   change_keys : HasKeys (sees m k) → new.kind ≡ Dict → ArePairs (sees m k) new.values × KeysDiffer (sees m k) new.values
   change_keys w = subst
       (λ (x : Rec). (after c x).kind ≡ Dict → ArePairs (sees m k) (after c x).values ×
-      KeysDiffer (sees m k) (after c x).values) (sym (at-is (sees m k) a found.0 found.1))
+      KeysDiffer (sees m k) (after c x).values) (sym (at_is (sees m k) a found.0 found.1))
       (keys_after (sees m k) c found.0 found.2.0 found.2.1 (w.dicts a found.0 found.1))
 
 pub keyed_change : (m : Meaning) (k a : ℕ) (c : Change) → IsKeyed m → CanChange (sees m k) a c

@@ -12,7 +12,7 @@ use Rattle.py_data.specs.Holds.{Refits, Tends}
 use Rattle.py_data.proofs.Grow.{with_rec_there, kept_after, for_tracked}
 use Rattle.py_data.proofs.Keep.{extends_same, fit_stays}
 use Rattle.py_data.proofs.Same.{one_rec}
-use Rattle.py_data.proofs.Steps.{at-is}
+use Rattle.py_data.proofs.Steps.{at_is}
 
 none_some : (o : Option Rec) (r : Rec) → o ≡ None → o ≡ Some r → ⊥
 none_some o r e f = let g : ◌≡◌ {A = Option Rec} None (Some r) = sym e ∙ f in cc
@@ -72,7 +72,7 @@ module _ (rules : Rules) (last : AreLasting rules) where
       → h1 ≡ put_at h a (after c (at h a)) → IsOrdered rules h → Ordered h h1
   edit_by h h1 a c None e i ask fit g order = absurd (let q : false ≡ true = i in cc)
   edit_by h h1 a c (Some r) e i ask fit g order =
-      let now : h1 ≡ put_at h a (after c r) = g ∙ ap (λ z. put_at h a (after c z)) (at-is h a r e) in
+      let now : h1 ≡ put_at h a (after c r) = g ∙ ap (λ z. put_at h a (after c z)) (at_is h a r e) in
       let x = edit_extends h a r (after c r) e (kept_after c r).kind (for_tracked c r.kind ask.0.0) in
       subst (Ordered h) (sym now) (put_ordered h a (after c r) order x (fit r e), x)
 

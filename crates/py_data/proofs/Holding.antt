@@ -18,7 +18,7 @@ use Rattle.py_data.proofs.Calls.{call_ordered}
 use Rattle.py_data.proofs.EveryLemmas.{every_and}
 use Rattle.py_data.proofs.Keep.{extends_same, extends_then}
 use Rattle.py_data.proofs.Parts.{safe_shown}
-use Rattle.py_data.proofs.Steps.{at-is}
+use Rattle.py_data.proofs.Steps.{at_is}
 
 -- ---- the pure meaning of a call has its effect
 through_short : (b : ℕ) (xs : List ℕ) (most : ℕ) → length xs ≤ most → length (take_through b xs) ≤ most
@@ -38,7 +38,7 @@ pub act_effect : {S : Type 0} (c : Call S) (s : Sight S) (r : Reply c) (t : Sigh
 act_effect (Read a) s r t d = (d.0, ap (λ z. z.heap) d.1)
 act_effect (Find x key) s o t d = (
   ap is_some d.1,
-  d.3 ∙ sym (ap (λ r. find_in r) (at-is s.heap x d.0 d.1)),
+  d.3 ∙ sym (ap (λ r. find_in r) (at_is s.heap x d.0 d.1)),
   ap (λ z. z.heap) d.4,
   tt,
 )
@@ -48,7 +48,7 @@ act_effect (Find x key) s o t d = (
 act_effect (Edit a c) s r t d = (
   ap is_some d.1,
   ap (λ z. z.heap) d.3 ∙
-      sym (ap (λ r. put_at s.heap a (after c r)) (at-is s.heap a d.0 d.1)),
+      sym (ap (λ r. put_at s.heap a (after c r)) (at_is s.heap a d.0 d.1)),
 )
 act_effect (Make q) s n t d = (d.0, ap (λ z. z.heap) d.1, refl)
 act_effect (Start p) s r t d = ap (λ z. z.heap) d

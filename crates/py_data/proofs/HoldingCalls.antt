@@ -19,7 +19,7 @@ use Rattle.py_data.proofs.Holding.{holds_do, holds_bind}
 use Rattle.py_data.proofs.Looking.{look_asks, looks_held}
 use Rattle.py_data.proofs.Refits.{change_fits}
 use Rattle.py_data.proofs.Same.{one_rec}
-use Rattle.py_data.proofs.Steps.{at-is, there-is, asks-edit}
+use Rattle.py_data.proofs.Steps.{at_is, there_is, asks_edit}
 
 -- the record that was made is there, and its address is an item
 made_item : (h1 : Heap) (a : ℕ) (r : Rec) → h1 a ≡ Some r → IsItem h1 (Ref (record { 0 = a }))
@@ -47,9 +47,9 @@ module _ {S A : Type 0} (rules : Rules) (stands : Heap → S → Type 0) (p : A 
   unfolding Asks
   holds_find d key k h r order e kind i n =
       holds_do rules stands p (Find d key) k h
-      (there-is h d r false (λ r. Fits h r key) e (kind, i, pairs_of rules h d r order e kind)) tt
+      (there_is h d r false (λ r. Fits h r key) e (kind, i, pairs_of rules h d r order e kind)) tt
       (λ o h1 f order1 x.
-      let found : o ≡ find h r.values key = f.1 ∙ ap (λ z. find h z.values key) (at-is h d r e) in
+      let found : o ≡ find h r.values key = f.1 ∙ ap (λ z. find h z.values key) (at_is h d r e) in
       subst (λ g. Holds rules stands p (k o) g) (sym f.2) (subst (λ z. Holds rules stands p (k z) h) (sym found) n))
 
   -- a record is changed
@@ -59,10 +59,10 @@ module _ {S A : Type 0} (rules : Rules) (stands : Heap → S → Type 0) (p : A 
       Holds rules stands p (k tt) h1) → Holds rules stands p (Do (Edit a c) k) h
   unfolding Asks
   holds_edit a c k h r order e allows suits puts n =
-      holds_do rules stands p (Edit a c) k h (asks-edit S false h a r c e allows suits)
+      holds_do rules stands p (Edit a c) k h (asks_edit S false h a r c e allows suits)
       (λ q f. subst (λ z. FitsAt rules h a (after c z)) (one_rec (h a) q r f e)
       (change_fits rules h a c r (order.each a r e) allows suits puts))
-      (λ u h1 f order1 x. n h1 order1 x (f.1 ∙ ap (λ z. put_at h a (after c z)) (at-is h a r e)))
+      (λ u h1 f order1 x. n h1 order1 x (f.1 ∙ ap (λ z. put_at h a (after c z)) (at_is h a r e)))
 
   -- a record that fits wherever it comes is made
   pub holds_make : (r : Rec) (k : ℕ → Row S A) (h : Heap) → ((a : ℕ) → FitsAt rules h a r)

@@ -11,7 +11,7 @@ use Rattle.py_data.specs.Holds.{Tends, Holds}
 use Rattle.py_data.specs.Looking.{IsLook, Looks, kind_row, size_row, look_row, bytes_row}
 use Rattle.py_data.specs.OrderLaws.{LooksHold, LooksRun, LooksBind}
 use Rattle.py_data.proofs.Same.{one_rec}
-use Rattle.py_data.proofs.Steps.{at-is}
+use Rattle.py_data.proofs.Steps.{at_is}
 
 -- a record that is there may be looked at
 pub look_asks : (S : Type 0) (h : Heap) (a : ℕ) → Has h a → Asks {S = S} false (Read a) h
@@ -82,7 +82,7 @@ module _ {S A : Type 0} where
     tt,
     subst (λ o. MatchOption o (false ≡ true) (λ r. Fits h r key)) (sym e) f,
     λ o g.
-        subst (λ z. Looks p (k z) h) (sym (g.1 ∙ ap (λ z. find h z.values key) (at-is h d r e))) i,
+        subst (λ z. Looks p (k z) h) (sym (g.1 ∙ ap (λ z. find h z.values key) (at_is h d r e))) i,
   )
 
   pub looks_weaken : (p q : A → Type 0) → ((a : A) → p a → q a) → (row : Row S A) (h : Heap) → Looks p row h →

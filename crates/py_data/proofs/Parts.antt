@@ -12,7 +12,7 @@ use Rattle.py_data.specs.Shape.{text_in, same_bytes, same_text, same_key, find, 
 use Rattle.py_data.specs.Row.{Call, Reply, Row, Ret, Do, Read, Find, Edit, Make, Start, Put, Take, MidLine, SetMidLine}
 use Rattle.py_data.specs.Sense.{IsPart, ShownOf, Edits, Effect, IfThere, Asks, Safe}
 use Rattle.py_data.proofs.Mirror.{find_there}
-use Rattle.py_data.proofs.Steps.{at-is}
+use Rattle.py_data.proofs.Steps.{at_is}
 
 -- ---- a record of the part
 some_of : (o : Option Rec) → IsSome o → (r : Rec) × (o ≡ Some r)
@@ -23,7 +23,7 @@ pub part_has : (g h : Heap) → IsPart g h → (a : ℕ) → Has g a → Has h a
 part_has g h q a s = let r = some_of (g a) s in subst IsSome (sym (q a r.0 r.1)) refl
 
 pub part_at : (g h : Heap) → IsPart g h → (a : ℕ) → Has g a → at h a ≡ at g a
-part_at g h q a s = let r = some_of (g a) s in at-is h a r.0 (q a r.0 r.1) ∙ sym (at-is g a r.0 r.1)
+part_at g h q a s = let r = some_of (g a) s in at_is h a r.0 (q a r.0 r.1) ∙ sym (at_is g a r.0 r.1)
 
 -- what is asked of a record of the whole, asked of one of the part
 if_part : (P Q : Rec → Type 0) → ((r : Rec) → P r → Q r) → (o x : Option Rec) → ((r : Rec) → o ≡ Some r → x ≡ Some r) →

@@ -13,7 +13,7 @@ use Rattle.py_data.specs.Sense.{Sense, Lawful, Effect, Run, Upto}
 use Rattle.py_data.specs.Steady.{lengthens, shortens, grows, shrinks, Steady, NoLonger, SteadyLaw, AskingLaw}
 use Rattle.py_data.proofs.Grow.{with_rec_there}
 use Rattle.py_data.proofs.Same.{one_rec}
-use Rattle.py_data.proofs.Steps.{at-is}
+use Rattle.py_data.proofs.Steps.{at_is}
 
 -- ---- no longer
 same_long : (h h1 : Heap) → h1 ≡ h → NoLonger h h1
@@ -90,7 +90,7 @@ call_shorter (Read a) p h h1 r g e = same_long h1 h (sym e.1)
 call_shorter (Find d key) p h h1 r g e = same_long h1 h (sym e.2)
 call_shorter (Edit a c) p h h1 r g e =
     let o = some_rec (h a) e.0 in
-    let now : h1 ≡ put_at h a (after c o.0) = e.1 ∙ ap (λ z. put_at h a (after c z)) (at-is h a o.0 o.1) in
+    let now : h1 ≡ put_at h a (after c o.0) = e.1 ∙ ap (λ z. put_at h a (after c z)) (at_is h a o.0 o.1) in
     subst (λ z. NoLonger z h) (sym now) (edit_shorter h a o.0 (after c o.0) o.1 (after_shorter c o.0 g))
 call_shorter (Make q) p h h1 r g e = absurd cc
 call_shorter (Start s) p h h1 r g e = same_long h1 h (sym e)
@@ -105,7 +105,7 @@ call_longer (Read a) p h h1 r g e = same_long h h1 e.1
 call_longer (Find d key) p h h1 r g e = same_long h h1 e.2
 call_longer (Edit a c) p h h1 r g e =
     let o = some_rec (h a) e.0 in
-    let now : h1 ≡ put_at h a (after c o.0) = e.1 ∙ ap (λ z. put_at h a (after c z)) (at-is h a o.0 o.1) in
+    let now : h1 ≡ put_at h a (after c o.0) = e.1 ∙ ap (λ z. put_at h a (after c z)) (at_is h a o.0 o.1) in
     subst (NoLonger h) (sym now) (edit_longer h a o.0 (after c o.0) o.1 (after_longer c o.0 g))
 call_longer (Make q) p h h1 r g e = subst (NoLonger h) (sym e.1) (make_longer h r q e.0)
 call_longer (Start s) p h h1 r g e = same_long h h1 e

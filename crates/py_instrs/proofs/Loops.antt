@@ -3,7 +3,7 @@ use Rattle.std.proofs.Common.{arith, ◌≡◌, ℕ, ◌-◌, false, not, sym, s
 use Rattle.py_data.specs.Looking.{until_row}
 use Rattle.py_data.specs.Sense.{Sense, Safe, IsLive}
 use Rattle.py_data.specs.inner.Rest.{Leads}
-use Rattle.py_data.proofs.Steps.{leads-begin}
+use Rattle.py_data.proofs.Steps.{leads_begin}
 use Rattle.py_frames.specs.RaiseRows.{place_catches, some_catches}
 
 module _ {S X : Type 0} {u : Sense S X} where
@@ -13,4 +13,4 @@ module _ {S X : Type 0} {u : Sense S X} where
   some_begin roots e t n v s l =
       let q : n - 0 ≡ n = omega arith in
       subst (λ m. Leads u (some_catches {S = S} roots e t n) v (until_row (place_catches roots e t) not false 0 m) v)
-      (sym q) (leads-begin u (some_catches {S = S} roots e t n) v s l)
+      (sym q) (leads_begin u (some_catches {S = S} roots e t n) v s l)

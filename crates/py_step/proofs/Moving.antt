@@ -6,9 +6,9 @@ use Rattle.py_data.specs.declared.stop.Stop.TheVariants.{OutOfMemory}
 use Rattle.py_data.specs.Heap.{Heap}
 use Rattle.py_data.specs.Row.{Row, Ret, bind}
 use Rattle.py_data.specs.Sense.{Sense, Safe, Run, Stopped, Meets}
-use Rattle.py_data.proofs.Rows.{run-ret, run-bind, own-memory, stop-first, stop-then}
+use Rattle.py_data.proofs.Rows.{run_ret, run_bind, own_memory, stop_first, stop_then}
 use Rattle.std.specs.Result.{IsErrAnd}
-use Rattle.py_data.proofs.Steps.{as-err, safe-first}
+use Rattle.py_data.proofs.Steps.{as_err, safe_first}
 use Rattle.py_code.specs.declared.instr.Instr.{Instr}
 use Rattle.py_code.specs.declared.program.Program.{Program}
 use Rattle.lock_run.specs.declared.client.Outcome.{Outcome}
@@ -83,7 +83,7 @@ done_here p s i false t l d e h q = absurd (let r : false ≡ true = q in cc)
 module _ {X : Type 0} (u : Sense State X) (p : Program) (s : State) where
   pub over : (f : Frame) (fs : List Frame) (v : X) → Run u (step_at p s f fs None) v (Ended, with_frames s []) v
   unfolding step_at
-  over f fs v = run-ret u (Ended, with_frames s []) v
+  over f fs v = run_ret u (Ended, with_frames s []) v
 
   -- ---- an instruction that takes n operands
   module _ (f : Frame) (fs : List Frame) (i : Instr) (n : ℕ) (e : n ≡ pops p f i) where
@@ -99,35 +99,35 @@ module _ {X : Type 0} (u : Sense State X) (p : Program) (s : State) where
         (sym e)
 
     pub part_safe : (h : Heap) → Safe u.partial (step_at p s f fs (Some i)) h → Safe u.partial part h
-    part_safe h z = safe-first u.partial part rest h (subst (λ r. Safe u.partial r h) whole z)
+    part_safe h z = safe_first u.partial part rest h (subst (λ r. Safe u.partial r h) whole z)
 
     pub stopped_within : (v w : X) (x : Stop) → Meets u part v w (Err x) → Stopped u (step_at p s f fs (Some i)) v x w
     unfolding Meets
-    stopped_within v w x m = subst (λ r. Stopped u r v x w) (sym whole) (stop-first u part rest v w x m)
+    stopped_within v w x m = subst (λ r. Stopped u r v x w) (sym whole) (stop_first u part rest v w x m)
 
     pub stopped_behind : (v w : X) (next : Next) → Meets u part v w (Ok next) →
         Stopped u (step_at p s f fs (Some i)) v OutOfMemory w
     unfolding Meets
     stopped_behind v w next m = subst (λ r. Stopped u r v OutOfMemory w) (sym whole)
-        (stop-then u part rest v w w next OutOfMemory m (own-memory u (rest next) w))
+        (stop_then u part rest v w w next OutOfMemory m (own_memory u (rest next) w))
 
     pub part_moved : (v w : X) (x : Stop) (r : Result Outcome Stop) → Meets u part v w (Err x) →
         IsErrAnd r (λ y. y ≡ x) → Moves u (step_at p s f fs (Some i)) v s w s r
-    part_moved v w x r m q = subst (λ z. Moves u (step_at p s f fs (Some i)) v s w s z) (sym (as-err r x q))
+    part_moved v w x r m q = subst (λ z. Moves u (step_at p s f fs (Some i)) v s w s z) (sym (as_err r x q))
         (stopped_within v w x m, refl)
 
     pub settle_moved : (v w : X) (next : Next) (t : State) (r : Result Outcome Stop) → Meets u part v w (Ok next) →
         t ≡ s → IsErrAnd r (λ y. y ≡ OutOfMemory) → Moves u (step_at p s f fs (Some i)) v s w t r
     settle_moved v w next t r m e q = subst (λ z. Moves u (step_at p s f fs (Some i)) v s w t z)
-        (sym (as-err r OutOfMemory q)) (stopped_behind v w next m, e)
+        (sym (as_err r OutOfMemory q)) (stopped_behind v w next m, e)
 
     pub settled_so : (v w : X) (next : Next) (z : Outcome × State) → Meets u part v w (Ok next) →
         z ≡ settled p s n f fs next → Run u (step_at p s f fs (Some i)) v z w
     unfolding Meets
     settled_so v w next z m q =
         subst (λ r. Run u r v z w) (sym whole)
-        (run-bind u part rest v w w next z m
-        (subst (λ y. Run u (rest next) w y w) (sym q) (run-ret u (settled p s n f fs next) w)))
+        (run_bind u part rest v w w next z m
+        (subst (λ y. Run u (rest next) w y w) (sym q) (run_ret u (settled p s n f fs next) w)))
 
   -- the state's own frames
   pub settled_is : (n : ℕ) (next : Next) (o : Outcome) (t : State) → 0 < length s.frames →
@@ -141,22 +141,22 @@ module _ {X : Type 0} (u : Sense State X) (s : State) (d : Dying) where
   last x = Ret (Ended, with_frames s [])
 
   pub words_safe : (h : Heap) → Safe u.partial (dying_step s d) h → Safe u.partial (dying_words {S = State} s d) h
-  words_safe h z = safe-first u.partial (dying_words {S = State} s d) last h z
+  words_safe h z = safe_first u.partial (dying_words {S = State} s d) last h z
 
   pub words_stopped : (v w : X) (x : Stop) → Meets u (dying_words s d) v w (Err x) → Stopped u (dying_step s d) v x w
   unfolding Meets
-  words_stopped v w x m = stop-first u (dying_words s d) last v w x m
+  words_stopped v w x m = stop_first u (dying_words s d) last v w x m
 
   pub words_said : (v w : X) (z : Outcome × State) → Meets u (dying_words s d) v w (Ok tt) →
       z ≡ (Ended, with_frames s []) → Run u (dying_step s d) v z w
   unfolding Meets
   words_said v w z m e =
-      run-bind u (dying_words s d) last v w w tt z m
-      (subst (λ y. Run u (last tt) w y w) (sym e) (run-ret u (Ended, with_frames s []) w))
+      run_bind u (dying_words s d) last v w w tt z m
+      (subst (λ y. Run u (last tt) w y w) (sym e) (run_ret u (Ended, with_frames s []) w))
 
   pub words_moved : (v w : X) (x : Stop) (r : Result Outcome Stop) → Meets u (dying_words s d) v w (Err x) →
       IsErrAnd r (λ y. y ≡ x) → Moves u (dying_step s d) v s w s r
-  words_moved v w x r m q = subst (λ z. Moves u (dying_step s d) v s w s z) (sym (as-err r x q))
+  words_moved v w x r m q = subst (λ z. Moves u (dying_step s d) v s w s z) (sym (as_err r x q))
       (words_stopped v w x m, refl)
 
 -- two parts that are the same

@@ -5,7 +5,7 @@ use Rattle.py_data.specs.Looking.{kind_row, look_row}
 use Rattle.py_data.specs.Row.{Row, Ret, Do, Read, bind}
 use Rattle.py_data.specs.Sense.{Run}
 use Rattle.py_data.specs.Sight.{Sight, Does, opened, looked_at}
-use Rattle.py_data.proofs.Steps.{at-is}
+use Rattle.py_data.proofs.Steps.{at_is}
 use Rattle.py_data.proofs.Looking.{some_of}
 use Rattle.lock_run.specs.declared.client.Outcome.{Outcome}
 use Rattle.lock_run.specs.Client.{Waiting, Going}
@@ -15,7 +15,7 @@ use Rattle.py_step.specs.inner.Peeked.{Comes, Avoids, Tells, EndsInWait}
 
 -- the record that is there
 pub there_at : (h : Heap) (a : ℕ) → Has h a → h a ≡ Some (at h a)
-there_at h a i = let r = some_of (h a) i in r.1 ∙ ap Some (sym (at-is h a r.0 r.1))
+there_at h a i = let r = some_of (h a) i in r.1 ∙ ap Some (sym (at_is h a r.0 r.1))
 
 module _ {S A : Type 0} (p : A → Type 0) (h : Heap) where
   -- a row that never gives such an answer
@@ -96,7 +96,7 @@ module _ {S A : Type 0} (h : Heap) where
   unfolding Avoids Run
   avoids_does p (Ret a) s t y n e d i = n (subst p d.0 i)
   avoids_does p (Do (Read a) k) s t y n e d i =
-      let q = at-is h a d.0 (ap (λ g. g a) (sym e) ∙ d.2.0) in
+      let q = at_is h a d.0 (ap (λ g. g a) (sym e) ∙ d.2.0) in
       avoids_does p (k d.0) d.1 t y (subst (λ r. Avoids p h (k r)) q n) (ap (λ z. z.heap) d.2.1 ∙ e) d.3 i
   avoids_does p (Do c k) s t y n e d i = never_does p (k d.0) d.1 t y (n d.0) d.3 i
 

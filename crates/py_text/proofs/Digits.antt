@@ -19,13 +19,13 @@ low_byte_more v w d e = omega arith
 
 -- ---- what is printed is read back
 
-pub IsWrittenAs-signed_decimal : (n : ℤ) → mag n < 2 ^ 63 → IsWrittenAs n (signed_decimal n)
-IsWrittenAs-signed_decimal (pos n) h = decimal_is_IsNumeral n (omega arith)
-IsWrittenAs-signed_decimal (negsuc n) h = (refl, decimal_is_IsNumeral (suc n) (omega arith))
+pub IsWrittenAs_signed_decimal : (n : ℤ) → mag n < 2 ^ 63 → IsWrittenAs n (signed_decimal n)
+IsWrittenAs_signed_decimal (pos n) h = decimal_is_IsNumeral n (omega arith)
+IsWrittenAs_signed_decimal (negsuc n) h = (refl, decimal_is_IsNumeral (suc n) (omega arith))
 
 pub printed : {E : Type 0} (r : Result (List ℕ) E) (n : ℤ) (bs : List ℕ) → mag n < 2 ^ 63 → bs ≡ signed_decimal n →
     IfOk r (λ a. a ≡ bs) → IfOk r (IsWrittenAs n)
-printed (Ok a) n bs h e p = subst (IsWrittenAs n) (sym (p ∙ e)) (IsWrittenAs-signed_decimal n h)
+printed (Ok a) n bs h e p = subst (IsWrittenAs n) (sym (p ∙ e)) (IsWrittenAs_signed_decimal n h)
 printed (Err x) n bs h e p = tt
 
 -- ---- the octal digits at the front

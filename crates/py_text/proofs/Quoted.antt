@@ -19,8 +19,8 @@ IsQuote q = (q ≡ 39) ⊎ (q ≡ 34)
 abbrev Stands : List ℕ → ℕ → Type 0
 Stands cs b = (rest : List ℕ) → spelled 0 (cs ++ rest) ≡ option_map (λ t. b ∷ t) (spelled 0 rest)
 
-is_hex-digit_char : (d : ℕ) → d < 16 → is_hex (digit_char d) ≡ true
-is_hex-digit_char d h = rw (digit_value-digit_char d (omega arith)) (lt-ltb d 16 h)
+is_hex_digit_char : (d : ℕ) → d < 16 → is_hex (digit_char d) ≡ true
+is_hex_digit_char d h = rw (digit_value-digit_char d (omega arith)) (lt-ltb d 16 h)
 
 hex_is : (a b x y : ℕ) (rest : List ℕ) → is_hex a ≡ true → is_hex b ≡ true → digit_value a ≡ x → digit_value b ≡ y →
     hex (a ∷ b ∷ rest) ≡ Some (record { byte = Some (x * 16 + y); size = 3 })
@@ -32,8 +32,8 @@ stands_hex b h rest =
     let low : b % 16 < 16 = omega arith in
     let whole : b / 16 * 16 + b % 16 ≡ b = omega arith in
     ap (λ z. then_spelled z (λ n. spelled n (120 ∷ digit_char (b / 16) ∷ digit_char (b % 16) ∷ rest)))
-    (hex_is (digit_char (b / 16)) (digit_char (b % 16)) (b / 16) (b % 16) rest (is_hex-digit_char (b / 16) high)
-    (is_hex-digit_char (b % 16) low) (digit_value-digit_char (b / 16) (omega arith))
+    (hex_is (digit_char (b / 16)) (digit_char (b % 16)) (b / 16) (b % 16) rest (is_hex_digit_char (b / 16) high)
+    (is_hex_digit_char (b % 16) low) (digit_value-digit_char (b / 16) (omega arith))
     (digit_value-digit_char (b % 16) (omega arith)))
     ∙ ap (λ z. option_map (λ t. z ∷ t) (spelled 0 rest)) whole
 
@@ -94,9 +94,9 @@ line_ends_same [] h = refl
 line_ends_same (b ∷ []) h = rw (h.0) refl
 line_ends_same (b ∷ c ∷ bs) h = rw (h.0) (ap (λ z. b ∷ z) (line_ends_same (c ∷ bs) h.1))
 
-no_return-append : (xs ys : List ℕ) → NoReturn xs → NoReturn ys → NoReturn (xs ++ ys)
-no_return-append [] ys p q = q
-no_return-append (x ∷ xs) ys p q = (p.0, no_return-append xs ys p.1 q)
+no_return_append : (xs ys : List ℕ) → NoReturn xs → NoReturn ys → NoReturn (xs ++ ys)
+no_return_append [] ys p q = q
+no_return_append (x ∷ xs) ys p q = (p.0, no_return_append xs ys p.1 q)
 
 no_return_digit : (d : ℕ) → d < 16 → (digit_char d == 13) ≡ false
 no_return_digit d h = ne_eqb (digit_char d) 13 (λ e. absurd (differ (ap digit_value e ∙ refl)))
@@ -129,7 +129,7 @@ no_return_cases q b false false false false false false false iq h e1 e2 e5 = (e
 
 no_return_shown : (q : ℕ) (bs : List ℕ) → IsQuote q → AllBytes bs → NoReturn (flat_map (shown q) bs)
 no_return_shown q [] iq h = tt
-no_return_shown q (b ∷ bs) iq h = no_return-append (shown q b) (flat_map (shown q) bs)
+no_return_shown q (b ∷ bs) iq h = no_return_append (shown q b) (flat_map (shown q) bs)
     (no_return_cases q b (b == 92) (b == q) (b == 9) (b == 10) (b == 13) (ltb b 32) (ltb 126 b) iq h.0 refl refl refl)
     (no_return_shown q bs iq h.1)
 

@@ -14,18 +14,18 @@ line_end_cases true false b c bs = refl
 line_end_cases false true b c bs = refl
 line_end_cases false false b c bs = refl
 
-pub line_ends-cons : (b : ℕ) (bs : List ℕ) → line_ends (b ∷ bs) ≡ (if b == 13 then 10 else b) ∷ line_ends
+pub line_ends_cons : (b : ℕ) (bs : List ℕ) → line_ends (b ∷ bs) ≡ (if b == 13 then 10 else b) ∷ line_ends
     (after_line_end b bs)
-line_ends-cons b [] = refl
-line_ends-cons b (c ∷ bs) = line_end_cases (b == 13) (c == 10) b c bs
+line_ends_cons b [] = refl
+line_ends_cons b (c ∷ bs) = line_end_cases (b == 13) (c == 10) b c bs
 
 -- ---- escapes
 
-pub spelled-drop : (n : ℕ) (bs : List ℕ) → spelled n bs ≡ spelled 0 (drop n bs)
-spelled-drop zero [] = refl
-spelled-drop (suc n) [] = refl
-spelled-drop zero (b ∷ bs) = refl
-spelled-drop (suc n) (b ∷ bs) = spelled-drop n bs
+pub spelled_drop : (n : ℕ) (bs : List ℕ) → spelled n bs ≡ spelled 0 (drop n bs)
+spelled_drop zero [] = refl
+spelled_drop (suc n) [] = refl
+spelled_drop zero (b ∷ bs) = refl
+spelled_drop (suc n) (b ∷ bs) = spelled_drop n bs
 
 -- what was written so far, and what the rest stands for
 abbrev pub Reaches : List ℕ → List ℕ → List ℕ → Type 0
@@ -65,7 +65,7 @@ escape_step body text text' rest more rest' b e p q f g h r =
     (spelled_escape b more q ∙ ap (λ z. then_spelled z (λ n. spelled n more)) (sym f))
     ∙ grown text (written e.byte) (spelled e.size more)
     ∙ ap (λ z. option_map (λ t. z ++ t) (spelled e.size more)) (sym g)
-    ∙ ap (λ z. option_map (λ t. text' ++ t) z) (spelled-drop e.size more ∙ ap (spelled 0) (sym h))
+    ∙ ap (λ z. option_map (λ t. text' ++ t) z) (spelled_drop e.size more ∙ ap (spelled 0) (sym h))
 
 pub no_escape : (body text rest more : List ℕ) (b : ℕ) → rest ≡ b ∷ more → b ≡ 92 → None ≡ escape_at more →
     Reaches body text rest → spelled 0 body ≡ None

@@ -9,22 +9,22 @@ use Rattle.std.specs.Io.KnownBytes.{IsAtEnd, Keeps, prepend_known}
 use Rattle.py_data.specs.World.{line_of}
 
 -- bytes without a newline are all of their line
-through-missed : (xs : List ℕ) → All (λ b. b ≢ 10) xs → take_through 10 xs ≡ xs
-through-missed [] h = refl
-through-missed (x ∷ xs) h = at (eqb x 10) refl (through-missed xs (All-tail (λ b. b ≢ 10) x xs h))
+through_missed : (xs : List ℕ) → All (λ b. b ≢ 10) xs → take_through 10 xs ≡ xs
+through_missed [] h = refl
+through_missed (x ∷ xs) h = at (eqb x 10) refl (through_missed xs (All-tail (λ b. b ≢ 10) x xs h))
   where
     at : (b : Bool) → eqb x 10 ≡ b → take_through 10 xs ≡ xs → cond b (x ∷ []) (x ∷ take_through 10 xs) ≡ x ∷ xs
     at true is rest = absurd (All-head (λ b. b ≢ 10) x xs h (eqb-true x 10 is))
     at false is rest = ap (λ l. x ∷ l) rest
 
 -- the line ends with the first newline, whatever follows
-through-found : (xs zs : List ℕ) (i : ℕ) → All (λ b. b ≢ 10) (take i xs) → i < length xs → get_or xs i 0 ≡ 10 →
+through_found : (xs zs : List ℕ) (i : ℕ) → All (λ b. b ≢ 10) (take i xs) → i < length xs → get_or xs i 0 ≡ 10 →
     take_through 10 (xs ++ zs) ≡ take (i + 1) xs
-through-found [] zs i h within e = absurd (omega arith)
-through-found (x ∷ xs) zs zero h within e = rw e refl
-through-found (x ∷ xs) zs (suc i) h within e =
+through_found [] zs i h within e = absurd (omega arith)
+through_found (x ∷ xs) zs zero h within e = rw e refl
+through_found (x ∷ xs) zs (suc i) h within e =
     let here : i < length xs = omega arith in
-    at (eqb x 10) refl (through-found xs zs i (All-tail (λ b. b ≢ 10) x (take i xs) h) here e)
+    at (eqb x 10) refl (through_found xs zs i (All-tail (λ b. b ≢ 10) x (take i xs) h) here e)
   where
     at : (b : Bool) → eqb x 10 ≡ b → take_through 10 (xs ++ zs) ≡ take (i + 1) xs →
         cond b (x ∷ []) (x ∷ take_through 10 (xs ++ zs)) ≡ take (suc i + 1) (x ∷ xs)
@@ -50,7 +50,7 @@ found : (held rest : List ℕ) (most i : ℕ) → All (λ b. b ≢ 10) (take i (
 found held rest most i none here =
     let w = take most held in
     let within : i < length w = slice_get_within w i 10 here in
-    let line = through-found w (take (most - length w) (drop most held ++ rest)) i none within
+    let line = through_found w (take (most - length w) (drop most held ++ rest)) i none within
     (get_or_from_slice_get w i 10 0 here) in
     let same : take (i + 1) held ≡ take (i + 1) w = ap (take (i + 1)) (sym (take-append-drop most held)) ∙
     take-append-le (i + 1) w (drop most held) (omega arith) in
@@ -59,37 +59,37 @@ found held rest most i none here =
 -- The same for what a reader had, where that is known.
 
 -- `w` is the part of what is held that can be of the line, and its first newline is at `i`
-pub found-known : (a r : Option (List ℕ)) (held w : List ℕ) (most i : ℕ) → Keeps a (prepend_known held r) →
+pub found_known : (a r : Option (List ℕ)) (held w : List ℕ) (most i : ℕ) → Keeps a (prepend_known held r) →
     w ≡ take most held
     → All (λ b. b ≢ 10) (take i w) → slice_get w i ≡ Some 10 → IfSome a (λ xs. take (i + 1) held ≡ line_of most xs)
-found-known None r held w most i k e none here = tt
-found-known (Some x) None held w most i k e none here = absurd k
-found-known (Some x) (Some y) held w most i k e none here =
+found_known None r held w most i k e none here = tt
+found_known (Some x) None held w most i k e none here = absurd k
+found_known (Some x) (Some y) held w most i k e none here =
     found held y most i (subst (λ l. All (λ b. b ≢ 10) (take i l)) e none)
     (subst (λ l. slice_get l i ≡ Some 10) e here) ∙ ap (line_of most) k
 
 -- as many bytes as are wanted were seen, and none is a newline
-pub full-known : (a r : Option (List ℕ)) (held : List ℕ) (most seen : ℕ) → Keeps a (prepend_known held r) →
+pub full_known : (a r : Option (List ℕ)) (held : List ℕ) (most seen : ℕ) → Keeps a (prepend_known held r) →
     seen ≤ length held → seen ≡ most
     → All (λ b. b ≢ 10) (take seen held) → IfSome a (λ xs. take seen held ≡ line_of most xs)
-full-known None r held most seen k within e none = tt
-full-known (Some x) None held most seen k within e none = absurd k
-full-known (Some x) (Some y) held most seen k within e none =
+full_known None r held most seen k within e none = tt
+full_known (Some x) None held most seen k within e none = absurd k
+full_known (Some x) (Some y) held most seen k within e none =
     sym (ap (λ n. take_through 10 (take n (held ++ y))) (sym e) ∙
-    ap (take_through 10) (take-append-le seen held y within) ∙ through-missed (take seen held) none) ∙
+    ap (take_through 10) (take-append-le seen held y within) ∙ through_missed (take seen held) none) ∙
     ap (line_of most) k
 
 -- all bytes that there are were seen, and none is a newline
-pub end-known : (a r : Option (List ℕ)) (held more : List ℕ) (most seen : ℕ) → Keeps a (prepend_known more r) →
+pub end_known : (a r : Option (List ℕ)) (held more : List ℕ) (most seen : ℕ) → Keeps a (prepend_known more r) →
     IsAtEnd r → length more ≡ length held
     → take (length held) more ≡ held → seen ≡ length held → seen ≤ most → All (λ b. b ≢ 10) (take seen held) →
     IfSome a (λ xs. take seen more ≡ line_of most xs)
-end-known None r held more most seen k end size front all within none = tt
-end-known (Some x) None held more most seen k end size front all within none = absurd k
-end-known (Some x) (Some y) held more most seen k end size front all within none =
+end_known None r held more most seen k end size front all within none = tt
+end_known (Some x) None held more most seen k end size front all within none = absurd k
+end_known (Some x) (Some y) held more most seen k end size front all within none =
     let same : more ≡ held = sym (take_all (length held) more (omega arith)) ∙ front in
     let whole : take seen held ≡ held = take_all seen held (omega arith) in
     let line : x ≡ held = sym k ∙ ap (λ l. l ++ y) same ∙ ap (λ l. held ++ l) end ∙ append-nil held in
     ap (take seen) same ∙ whole
     ∙ sym (ap (line_of most) line ∙ ap (take_through 10) (take_all most held (omega arith)) ∙
-    through-missed held (subst (All (λ b. b ≢ 10)) whole none))
+    through_missed held (subst (All (λ b. b ≢ 10)) whole none))

@@ -18,7 +18,7 @@ use Rattle.py_data.specs.Sense.{IsPart, IfThere}
 use Rattle.py_data.specs.Shape.{is_key_kind, KindIn, IsKey, ArePairs, Fits as FitsKey}
 use Rattle.py_data.proofs.Mirror.{find_there}
 use Rattle.py_data.proofs.Parts.{effect_part}
-use Rattle.py_data.proofs.Steps.{at-is}
+use Rattle.py_data.proofs.Steps.{at_is}
 use Rattle.lock_run.specs.Prog.{Prog}
 use Rattle.lock_run.specs.Machine.{Machine}
 use Rattle.seg_store.specs.Meaning.{Part, Meaning, over, sees, holds}
@@ -138,7 +138,7 @@ module _ (k : ℕ) (locked : Marks) (g : Heap) (m : Meaning) (a : ℕ) (c : Chan
   part_after =
       let has : Has g a = subst IsSome (sym may.is) refl in
       let d = effect_part {S = Unit {0}} (Edit a c) g (sees m k) tt (put_at g a (after c q)) carries.part
-      (has, ap (λ r. put_at g a (after c r)) (sym (at-is g a q may.is))) in
+      (has, ap (λ r. put_at g a (after c r)) (sym (at_is g a q may.is))) in
       subst (IsPart (put_at g a (after c q))) (d.1.1 ∙ sym (change_shows k a (after c) m).seen) d.2
 
   some_after : (b : ℕ) →

@@ -1,5 +1,5 @@
 -- Looks at records, and the other calls that change no record.
-use Rattle.py_data.proofs.Steps.{at-is}
+use Rattle.py_data.proofs.Steps.{at_is}
 use Rattle.std.proofs.Common.{◌≡◌, ◌≢◌, ◌≤◌, ◌+◌, ℕ, Bool, true, false, not, ◌||◌, ◌&&◌, eqb, List, [], ◌∷◌, ◌++◌, length, take, slice_get, zero, suc, Option, Some, None, refl, sym, ◌∙◌, ap, subst, inl, inr, arith, IsSome, unwrap_or, slice_set, length-append}
 use Rattle.std.proofs.lemmas.Bool.{cases_Bool, both_ways, cond-true}
 use Rattle.std.proofs.lemmas.List.Elements.{All-nil}
@@ -390,9 +390,9 @@ stored_at r m k a s there = go ((m.part k).changes a) (m.image a) refl refl
     none_there (Some q) h t = cc
 
     go : (o i : Option Rec) → (m.part k).changes a ≡ o → m.image a ≡ i → IsStored (at (sees m k) a)
-    go (Some q) i e f = subst IsStored (sym (at-is (sees m k) a q (ap (λ z. over z (m.image a)) e)))
+    go (Some q) i e f = subst IsStored (sym (at_is (sees m k) a q (ap (λ z. over z (m.image a)) e)))
         ((s.stored_changes k).each a q e)
-    go None (Some q) e f = subst IsStored (sym (at-is (sees m k) a q (ap (λ z. over z (m.image a)) e ∙ f)))
+    go None (Some q) e f = subst IsStored (sym (at_is (sees m k) a q (ap (λ z. over z (m.image a)) e ∙ f)))
         (s.stored.each a q f)
     go None None e f = absurd (none_there (sees m k a) (ap (λ z. over z (m.image a)) e ∙ f) there)
 

@@ -4,7 +4,7 @@ use Rattle.std.proofs.lemmas.Bool.{both_ways}
 use Rattle.std.proofs.Math.Seq.{take-add}
 use Rattle.py_data.specs.Heap.{Rec, Heap, Has, at, blank}
 use Rattle.py_data.specs.Sense.{IfThere}
-use Rattle.py_data.proofs.Steps.{at-is}
+use Rattle.py_data.proofs.Steps.{at_is}
 use Rattle.seg_store.specs.Store.{HasPlace, HasBytes}
 use Rattle.stm_core.proofs.Seeing.{at_there}
 
@@ -44,4 +44,4 @@ part_same xs ys d n e le h =
 
 -- it is this one exactly where this one is seen there
 pub seen_is : (h : Heap) (a : ℕ) (r : Rec) (b : Bool) → Has h a → IsTrue b ↔ (at h a ≡ r) → IsTrue b ↔ (h a ≡ Some r)
-seen_is h a r b t f = (λ y. at_there h a t ∙ ap Some (f.0 y), λ e. f.1 (at-is h a r e))
+seen_is h a r b t f = (λ y. at_there h a t ∙ ap Some (f.0 y), λ e. f.1 (at_is h a r e))

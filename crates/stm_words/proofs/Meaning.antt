@@ -11,15 +11,15 @@ answer us = options_from (given_by us)
 
 -- ---- lists of uses
 
-pub places-append : (us ws : List Use) → places (us ++ ws) ≡ places us ++ places ws
-places-append [] ws = refl
-places-append (Place v ∷ us) ws = ap (λ vs. v ∷ vs) (places-append us ws)
-places-append (Value t v ∷ us) ws = places-append us ws
+pub places_append : (us ws : List Use) → places (us ++ ws) ≡ places us ++ places ws
+places_append [] ws = refl
+places_append (Place v ∷ us) ws = ap (λ vs. v ∷ vs) (places_append us ws)
+places_append (Value t v ∷ us) ws = places_append us ws
 
-pub values-append : (s : Setting) (us ws : List Use) → values s (us ++ ws) ≡ values s us ++ values s ws
-values-append s [] ws = refl
-values-append s (Place v ∷ us) ws = values-append s us ws
-values-append s (Value t v ∷ us) ws = go (bytes_eq (name_of t) (name_of s)) (values-append s us ws)
+pub values_append : (s : Setting) (us ws : List Use) → values s (us ++ ws) ≡ values s us ++ values s ws
+values_append s [] ws = refl
+values_append s (Place v ∷ us) ws = values_append s us ws
+values_append s (Value t v ∷ us) ws = go (bytes_eq (name_of t) (name_of s)) (values_append s us ws)
   where
     go : (b : Bool) → values s (us ++ ws) ≡ values s us ++ values s ws
         → cond b (v ∷ values s (us ++ ws)) (values s (us ++ ws)) ≡ cond b (v ∷ values s us) (values s us) ++ values s ws
@@ -155,7 +155,7 @@ one_more us u more = append_assoc us (u ∷ []) more
 pub twice_a_value : (us : List Use) (s : Setting) (v : List ℕ) (xs : List (List ℕ)) (w : List ℕ)
     → values s us ≡ v ∷ xs → Doomed (us ++ Value s w ∷ [])
 twice_a_value us s v xs w has more =
-    let all : values s (us ++ Value s w ∷ more) ≡ v ∷ xs ++ w ∷ values s more = values-append s us (Value s w ∷ more)
+    let all : values s (us ++ Value s w ∷ more) ≡ v ∷ xs ++ w ∷ values s more = values_append s us (Value s w ∷ more)
     ∙ ap (λ vs. vs ++ values s (Value s w ∷ more)) has
     ∙ ap (λ vs. (v ∷ xs) ++ vs) (values_own s w more) in
     ap answer (one_more us (Value s w) more)
@@ -164,7 +164,7 @@ twice_a_value us s v xs w has more =
 pub twice_a_place : (us : List Use) (v : List ℕ) (xs : List (List ℕ)) (w : List ℕ) → places us ≡ v ∷ xs
     → Doomed (us ++ Place w ∷ [])
 twice_a_place us v xs w has more =
-    let all : places (us ++ Place w ∷ more) ≡ v ∷ xs ++ w ∷ places more = places-append us (Place w ∷ more)
+    let all : places (us ++ Place w ∷ more) ≡ v ∷ xs ++ w ∷ places more = places_append us (Place w ∷ more)
     ∙ ap (λ vs. vs ++ w ∷ places more) has in
     ap answer (one_more us (Place w) more)
     ∙ no_script (us ++ Place w ∷ more)
@@ -173,7 +173,7 @@ twice_a_place us v xs w has more =
 pub a_dash : (us : List Use) (s : Setting) → Doomed (us ++ Value s (codes "-") ∷ [])
 a_dash us s more =
     let all : values s (us ++ Value s (codes "-") ∷ more)
-    ≡ values s us ++ codes "-" ∷ values s more = values-append s us (Value s (codes "-") ∷ more)
+    ≡ values s us ++ codes "-" ∷ values s more = values_append s us (Value s (codes "-") ∷ more)
     ∙ ap (λ vs. values s us ++ vs) (values_own s (codes "-") more) in
     ap answer (one_more us (Value s (codes "-")) more)
     ∙ refused s (us ++ Value s (codes "-") ∷ more)

@@ -16,7 +16,7 @@ use Rattle.clap.specs.declared.parser.matches.ValueSource.TheVariants.{CommandLi
 use Rattle.stm_words.specs.declared.call.Options.{Options}
 use Rattle.stm_words.specs.inner.Given.{pystm_app}
 use Rattle.stm_words.specs.Options.{Setting, Segments, Length, Pages, Budget, Workload, Use, Place, Value, Given, name_of, given_by, options_from, places, values}
-use Rattle.stm_words.proofs.Meaning.{Doomed, answer, places-append, twice_a_place, twice_a_value, values-append}
+use Rattle.stm_words.proofs.Meaning.{Doomed, answer, places_append, twice_a_place, twice_a_value, values_append}
 
 -- ---- the command as it is built
 
@@ -266,27 +266,27 @@ short_more vs ws v e is =
 single_place : (us : List Use) (v : List ℕ) → has_row (codes "file") (rows us) ≡ false → Single us
     → Single (us ++ Place v ∷ [])
 single_place us v none single = record {
-  places = short_more (places us) _ v (sym (has_place us) ∙ none) (places-append us (Place v ∷ []));
-  values = λ s. subst IsShort (sym (values-append s us (Place v ∷ []) ∙ append-nil (values s us))) (single.values s);
+  places = short_more (places us) _ v (sym (has_place us) ∙ none) (places_append us (Place v ∷ []));
+  values = λ s. subst IsShort (sym (values_append s us (Place v ∷ []) ∙ append-nil (values s us))) (single.values s);
 }
 
 single_value : (us : List Use) (t : Setting) (v : List ℕ) → has_row (name_of t) (rows us) ≡ false → Single us
     → Single (us ++ Value t v ∷ [])
 single_value us t v none single = record {
-  places = subst IsShort (sym (places-append us (Value t v ∷ []) ∙ append-nil (places us))) single.places;
+  places = subst IsShort (sym (places_append us (Value t v ∷ []) ∙ append-nil (places us))) single.places;
   values = λ s. go s (bytes_eq (name_of t) (name_of s)) refl;
 }
   where
     go : (s : Setting) (b : Bool) → bytes_eq (name_of t) (name_of s) ≡ b → IsShort (values s (us ++ Value t v ∷ []))
     go s false e =
-        let same : values s (us ++ Value t v ∷ []) ≡ values s us = values-append s us (Value t v ∷ [])
+        let same : values s (us ++ Value t v ∷ []) ≡ values s us = values_append s us (Value t v ∷ [])
         ∙ ap (λ b. values s us ++ cond b (v ∷ []) []) e ∙ append-nil (values s us) in
         subst IsShort (sym same) (single.values s)
     go s true e =
         let alike : name_of t ≡ name_of s = (bytes_eq-Decides (name_of t) (name_of s)).0 e in
         let absent : has_row (name_of s) (rows us) ≡ false = ap (λ n. has_row n (rows us)) (sym alike) ∙ none in
         short_more (values s us) _ v (sym (has_value s us) ∙ absent)
-        (values-append s us (Value t v ∷ []) ∙ ap (λ b. values s us ++ cond b (v ∷ []) []) e)
+        (values_append s us (Value t v ∷ []) ∙ ap (λ b. values s us ++ cond b (v ∷ []) []) e)
 
 -- a use more: it is not there yet, or there is one, and then all is refused
 pub record Adds (us : List Use) (u : Use) : Type 0 where

@@ -8,7 +8,7 @@ use Rattle.clap.specs.Walk.{Held, Text, Waiting, Walk, idle, is_pending, settled
 use Rattle.clap.specs.declared.error.kind.ErrorKind.TheVariants as kind
 use Rattle.stm_words.specs.declared.call.Options.{Options}
 use Rattle.stm_words.specs.Options.{Use, Place, places}
-use Rattle.stm_words.proofs.Meaning.{Doomed, answer, places-append, twice_a_place}
+use Rattle.stm_words.proofs.Meaning.{Doomed, answer, places_append, twice_a_place}
 use Rattle.stm_words.proofs.Rows.{Adds, Repeats, Single, adds, file_rule, finish, finished, id_of, rows, rule_by_id, rule_of_use, rules, shape, text_of}
 
 -- ---- what comes of a walk
@@ -58,14 +58,14 @@ Placed true us = (v : List ℕ) × (vs : List (List ℕ)) × (places us ≡ v �
 
 pub placed_more : (b : Bool) (us ws : List Use) → Placed b us → Placed b (us ++ ws)
 placed_more false us ws h = tt
-placed_more true us ws (v, vs, e) = (v, vs ++ places ws, places-append us ws ∙ ap (λ xs. xs ++ places ws) e)
+placed_more true us ws (v, vs, e) = (v, vs ++ places ws, places_append us ws ∙ ap (λ xs. xs ++ places ws) e)
 
 pub placed_now : (us : List Use) (v : List ℕ) → Placed true (us ++ Place v ∷ [])
 placed_now us v = go (places us) refl
   where
     go : (vs : List (List ℕ)) → places us ≡ vs → Placed true (us ++ Place v ∷ [])
-    go [] e = (v, [], places-append us (Place v ∷ []) ∙ ap (λ xs. xs ++ v ∷ []) e)
-    go (x ∷ xs) e = (x, xs ++ v ∷ [], places-append us (Place v ∷ []) ∙ ap (λ ys. ys ++ v ∷ []) e)
+    go [] e = (v, [], places_append us (Place v ∷ []) ∙ ap (λ xs. xs ++ v ∷ []) e)
+    go (x ∷ xs) e = (x, xs ++ v ∷ [], places_append us (Place v ∷ []) ∙ ap (λ ys. ys ++ v ∷ []) e)
 
 pub placed_twice : (us : List Use) (v : List ℕ) → Placed true us → Doomed (us ++ Place v ∷ [])
 placed_twice us v (x, xs, e) = twice_a_place us x xs v e

@@ -12,7 +12,7 @@ use Rattle.py_data.specs.Heap.{put_at}
 use Rattle.py_data.specs.Shape.{find}
 use Rattle.py_data.specs.Row.{Call, Read, Find, Edit, Make, Start, Put, Take, MidLine, SetMidLine, Reply}
 use Rattle.py_data.specs.Sense.{Lawful, IsBracket, Effect, Edits, can_refuse, WantsRoom, IfFull}
-use Rattle.py_data.proofs.Steps.{at-is}
+use Rattle.py_data.proofs.Steps.{at_is}
 use Rattle.stm_io.specs.Outside.{SourceState, SinkState}
 use Rattle.lock_run.specs.PlainState.{PlainState, PlainDoes, Changes, Why}
 use Rattle.lock_run.specs.PlainSense.{plain_sense, plain_bracket, plain_stops}
@@ -23,7 +23,7 @@ changes_edits : {S : Type 0} (a : ℕ) (x : Change) (d e : PlainState S) → Cha
 changes_edits a x d e h = (
   subst IsSome (sym h.1) refl,
   ap (λ d. d.heap) h.3 ∙
-      ap (λ q. put_at d.heap a (after x q)) (sym (at-is d.heap a h.0 h.1)),
+      ap (λ q. put_at d.heap a (after x q)) (sym (at_is d.heap a h.0 h.1)),
 )
 
 -- each call does to the heap what such a call does over any view
@@ -33,7 +33,7 @@ plain_effect (Read a) d r e h = (h.0, ap (λ d. d.heap) h.1)
 plain_effect (Find a key) d r e h = (
   subst IsSome (sym h.1) refl,
   h.3 ∙
-      ap (λ q. find d.heap q.values key) (sym (at-is d.heap a h.0 h.1)),
+      ap (λ q. find d.heap q.values key) (sym (at_is d.heap a h.0 h.1)),
   ap (λ d. d.heap) h.4,
   tt,
 )

@@ -15,8 +15,8 @@ use Rattle.py_data.specs.Row.{Call, Reply, Row, Ret, Do, Edit, MidLine, bind}
 use Rattle.py_data.specs.declared.change.Change.TheVariants as change
 use Rattle.py_data.specs.Sense.{Run}
 use Rattle.py_data.specs.Sight.{Sight, Does, opened, pure}
-use Rattle.py_data.proofs.Rows.{bind-run}
-use Rattle.py_data.proofs.Steps.{put-here}
+use Rattle.py_data.proofs.Rows.{bind_run}
+use Rattle.py_data.proofs.Steps.{put_here}
 use Rattle.lock_run.specs.declared.client.Outcome.{Outcome}
 use Rattle.lock_run.specs.declared.client.Outcome.TheVariants.{Done, Ended, Waits}
 use Rattle.lock_run.specs.declared.script.Act.{Act}
@@ -59,7 +59,7 @@ is_made form h a q e b i = elim (cases_Bool (eqb b a)) [
 ]
 
 is_put : (form : Rec → Type 0) (h : Heap) (a : ℕ) (q : Rec) → form q → Is form (put_at h a q) a
-is_put form h a q f = record { rec = q; here = put-here h a q; so = f }
+is_put form h a q f = record { rec = q; here = put_here h a q; so = f }
 
 -- Cells and Lists stay
 pub record Stays (h h1 : Heap) : Type 0 where
@@ -243,7 +243,7 @@ prelude_done : (n count : ℕ) (x y : Sight ScriptState) (u : Unit {0}) → Does
     x.started ≡ [] → Stays x.heap y.heap × AreStanding y.heap y.started
 unfolding prelude_row
 prelude_done n count x y u d e =
-    let b = bind-run pure (make_cells n []) (list_and_threads count) x u y d in
+    let b = bind_run pure (make_cells n []) (list_and_threads count) x u y d in
     let one = cells_made n [] b.0 x b.1 b.2 (record { each = λ k a f. absurd (cc) }) in
     let two = list_made count b.0 b.1 y u b.3 one.1 (one.0.started ∙ e) in
     (stays_then x.heap b.1.heap y.heap one.0.stays two.0, two.1)
@@ -271,7 +271,7 @@ act_stood : (lists : List (List Act)) (number done : ℕ) (cells : List Addr) (l
     → HasCells x.heap cells × HasList x.heap list → x.started ≡ [] → Stood x y q.1
 unfolding Run
 act_stood lists number done cells list (Some act) x y q d l e =
-    let b = bind-run pure (act_row cells list act) (after_act lists number done cells list) x q y d in
+    let b = bind_run pure (act_row cells list act) (after_act lists number done cells list) x q y d in
     let k : Keeps x y = subst (Keeps x) (sym b.3.1) (was_done cells list act x b.1 b.0 b.2) in
     let there : HasCells y.heap cells × HasList y.heap list =
     (cells_stay x.heap y.heap cells k.stays l.0, list_stays x.heap y.heap list k.stays l.1) in
@@ -290,7 +290,7 @@ step_stood : (n : ℕ) (lists : List (List Act)) (s : ScriptState) (x y : Sight 
     → Does (script_row n lists s) x q y → IsStanding x.heap s → x.started ≡ [] → Stood x y q.1
 unfolding script_row Run
 step_stood n lists Prelude x y q d l e =
-    let b = bind-run pure (prelude_row n (length lists)) then_over x q y d in
+    let b = bind_run pure (prelude_row n (length lists)) then_over x q y d in
     let p = prelude_done n (length lists) x b.1 b.0 b.2 e in
     record {
       stays = subst (λ (z : Sight ScriptState). Stays x.heap z.heap) (sym b.3.1) p.0;
@@ -325,13 +325,13 @@ act_life : (lists : List (List Act)) (number done : ℕ) (cells : List Addr) (li
     Does (at_act lists number done cells list act) x (o, s1) y → LifeAfter o (script_life s1)
 unfolding Run
 act_life lists number done cells list (Some act) o s1 x y d =
-    let b = bind-run pure (act_row cells list act) (after_act lists number done cells list) x (o, s1) y d in
+    let b = bind_run pure (act_row cells list act) (after_act lists number done cells list) x (o, s1) y d in
     done_life o s1 (act_at lists number (done + 1)) number (done + 1) cells list b.3.0
 act_life lists number done cells list None o s1 x y d = over_life o s1 d.0
 
 pub script_tells_life : (n : ℕ) (lists : List (List Act)) → TellsLife (script_prog n lists)
 unfolding script_row Run
-script_tells_life n lists Prelude s1 x y o lives d = let b = bind-run pure (prelude_row n (length lists)) then_over x
+script_tells_life n lists Prelude s1 x y o lives d = let b = bind_run pure (prelude_row n (length lists)) then_over x
     (o, s1) y d in over_life o s1 b.3.0
 script_tells_life n lists (Acts number done cells list) s1 x y o lives d =
     act_life lists number done cells list (act_at lists number done) o s1 x y d
@@ -350,14 +350,14 @@ act_goes : (lists : List (List Act)) (number done : ℕ) (cells : List Addr) (li
     (s1 : ScriptState) (x y : Sight ScriptState) → Does (at_act lists number done cells list o) x (Waits, s1) y → ⊥
 unfolding Run
 act_goes lists number done cells list (Some act) s1 x y d =
-    let b = bind-run pure (act_row cells list act) (after_act lists number done cells list) x (Waits, s1) y d in
+    let b = bind_run pure (act_row cells list act) (after_act lists number done cells list) x (Waits, s1) y d in
     done_goes s1 (act_at lists number (done + 1)) number (done + 1) cells list b.3.0
 act_goes lists number done cells list None s1 x y d = over_goes s1 d.0
 
 pub script_goes : (n : ℕ) (lists : List (List Act)) (s s1 : ScriptState) (x y : Sight ScriptState) →
     Does (script_row n lists s) x (Waits, s1) y → ⊥
 unfolding script_row Run
-script_goes n lists Prelude s1 x y d = let b = bind-run pure (prelude_row n (length lists)) then_over x (Waits, s1) y d
+script_goes n lists Prelude s1 x y d = let b = bind_run pure (prelude_row n (length lists)) then_over x (Waits, s1) y d
     in over_goes s1 b.3.0
 script_goes n lists (Acts number done cells list) s1 x y d =
     act_goes lists number done cells list (act_at lists number done) s1 x y d

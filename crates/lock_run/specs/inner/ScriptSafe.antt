@@ -13,7 +13,7 @@ use Rattle.py_data.specs.Heap.{Heap, Rec, is_tracked}
 use Rattle.py_data.specs.Changes.{IsValuePlace}
 use Rattle.py_data.specs.Row.{Ret, Do, Edit, Make}
 use Rattle.py_data.specs.Sense.{Asks, Safe}
-use Rattle.py_data.proofs.Steps.{there-is, asks-edit, safe-bind}
+use Rattle.py_data.proofs.Steps.{there_is, asks_edit, safe_bind}
 use Rattle.lock_run.specs.declared.script.Act.{Act}
 use Rattle.lock_run.specs.declared.script.Act.TheVariants.{Look, Set, Push as PushAct, Put as PutAct}
 use Rattle.lock_run.specs.declared.script.ScriptState.{ScriptState}
@@ -33,7 +33,7 @@ module _ (S : Type 0) (h : Heap) where
   look_safe cells k None c e = tt
   look_safe cells k (Some a) c e =
       let i = c.each k a e in
-      (there-is h a.0 i.rec false (λ r. Unit {0}) i.here tt, λ r h1 f. tt)
+      (there_is h a.0 i.rec false (λ r. Unit {0}) i.here tt, λ r h1 f. tt)
 
   set_safe : (cells : List Addr) (k : ℕ) (o : Option Addr) (v : Value) → HasCells h cells → slice_get cells k ≡ o →
       Safe {S = S} false (set_row o v) h
@@ -42,7 +42,7 @@ module _ (S : Type 0) (h : Heap) where
   set_safe cells k (Some a) v c e =
       let i = c.each k a e in
       let one = i.so.1 in (
-        asks-edit S false h a.0 i.rec (change.Set 0 v) i.here (ap is_tracked i.so.0, omega (arith, one))
+        asks_edit S false h a.0 i.rec (change.Set 0 v) i.here (ap is_tracked i.so.0, omega (arith, one))
             (value_place i.rec.kind i.so.0),
         λ r h1 f. tt,
       )
@@ -53,7 +53,7 @@ push_safe_if : (S : Type 0) (h : Heap) (list : Addr) (r : Rec) (v : Value) (b : 
 unfolding Safe Asks
 push_safe_if S h list r v false here kind e = tt
 push_safe_if S h list r v true here kind e = (
-  asks-edit S false h list.0 r (change.Push v) here (kind, ltb-true (length r.values) LENGTH_LIMIT e) tt,
+  asks_edit S false h list.0 r (change.Push v) here (kind, ltb-true (length r.values) LENGTH_LIMIT e) tt,
   λ x h1 f.
       tt,
 )
@@ -62,7 +62,7 @@ push_safe : (S : Type 0) (h : Heap) (list : Addr) (v : Value) → HasList h list
 unfolding push_row Safe Asks
 push_safe S h list v l =
     let i = l.is in (
-      there-is h list.0 i.rec false (λ r. Unit {0}) i.here tt,
+      there_is h list.0 i.rec false (λ r. Unit {0}) i.here tt,
       λ r h1 f. let here : h1 list.0 ≡ Some r =
           ap (λ g. g list.0) f.1 ∙ f.0 in push_safe_if S h1 list r v (ltb (length r.values) LENGTH_LIMIT) here
           (list_kind i.rec r (sym i.here ∙ f.0) i.so) refl,
@@ -111,7 +111,7 @@ list_and_threads_safe count cells h = (
 
 prelude_safe : (n count : ℕ) (h : Heap) → Safe false (prelude_row n count) h
 unfolding prelude_row
-prelude_safe n count h = safe-bind false (make_cells n []) (list_and_threads count) h
+prelude_safe n count h = safe_bind false (make_cells n []) (list_and_threads count) h
     (cells_safe ScriptState false n [] h) (list_and_threads_safe count)
 
 -- ---- the steps
@@ -119,7 +119,7 @@ at_act_safe : (lists : List (List Act)) (number done : ℕ) (cells : List Addr) 
     → HasCells h cells × HasList h list → Safe false (at_act lists number done cells list o) h
 unfolding Safe
 at_act_safe lists number done cells list (Some act) h l =
-    safe-bind false (act_row cells list act)
+    safe_bind false (act_row cells list act)
     (λ _. Ret (now_done (act_at lists number (done + 1)) number (done + 1) cells list)) h
     (act_safe ScriptState h cells list act l) (λ u h1. tt)
 at_act_safe lists number done cells list None h l = tt
@@ -127,7 +127,7 @@ at_act_safe lists number done cells list None h l = tt
 step_safe : (n : ℕ) (lists : List (List Act)) (s : ScriptState) (h : Heap) → IsStanding h s →
     Safe false (script_row n lists s) h
 unfolding script_row Safe
-step_safe n lists Prelude h l = safe-bind false (prelude_row n (length lists)) _ h (prelude_safe n (length lists) h)
+step_safe n lists Prelude h l = safe_bind false (prelude_row n (length lists)) _ h (prelude_safe n (length lists) h)
     (λ u h1. tt)
 step_safe n lists (Acts number done cells list) h l =
     at_act_safe lists number done cells list (act_at lists number done) h l

@@ -15,7 +15,7 @@ use Rattle.py_data.specs.Shape.{find}
 use Rattle.py_data.specs.Row.{Call, Read, Find, Edit, Make, Start, Put, Take, MidLine, SetMidLine, Reply}
 use Rattle.py_data.specs.Sense.{Sense, Bracket, Lawful, IsBracket, Effect, Edits, can_refuse, touches, WantsRoom, IfFull, IfThere}
 use Rattle.py_data.specs.Sight.{Sight, Edited, looked_at}
-use Rattle.py_data.proofs.Steps.{at-is}
+use Rattle.py_data.proofs.Steps.{at_is}
 use Rattle.py_data.proofs.Grow.{act_grows, grows_refl, with_rec_here}
 use Rattle.py_data.specs.Frames.{Grows}
 use Rattle.seg_store.specs.Meaning.{Meaning, sees, saw, overlay}
@@ -45,7 +45,7 @@ edits : {T : Type 0} (a : ℕ) (x : Change) (s t : Sight T) → Edited a x s t �
 edits a x s t h = (
   subst IsSome (sym h.1) refl,
   ap (λ z. z.heap) h.3 ∙
-      ap (λ q. put_at s.heap a (after x q)) (sym (at-is s.heap a h.0 h.1)),
+      ap (λ q. put_at s.heap a (after x q)) (sym (at_is s.heap a h.0 h.1)),
 )
 
 effect : {T : Type 0} (k : ℕ) (me : Side) (c : Call T) (d : Hold T) (r : Reply c) (e : Hold T) (p q : DeviceState) →
@@ -58,7 +58,7 @@ effect k me (Read a) d r e p q h o = (h.0.0, ap (λ z. z.heap) h.0.1)
 effect k me (Find a v) d r e p q h o = (
   subst IsSome (sym h.0.1) refl,
   h.0.3 ∙
-      ap (λ q. find (sees d.meaning k) q.values v) (sym (at-is (sees d.meaning k) a h.0.0 h.0.1)),
+      ap (λ q. find (sees d.meaning k) q.values v) (sym (at_is (sees d.meaning k) a h.0.0 h.0.1)),
   ap (λ z. z.heap) h.0.4,
   tt,
 )

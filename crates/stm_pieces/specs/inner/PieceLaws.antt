@@ -13,7 +13,7 @@ use Rattle.py_data.specs.Heap.{Heap, Rec, Has, put_at}
 use Rattle.py_data.specs.Shape.{find, IsKey, ArePairs}
 use Rattle.py_data.specs.Row.{Call, Reply, Read, Find, Edit, Make, Start, Put, Take, MidLine, SetMidLine}
 use Rattle.py_data.specs.Sense.{Lawful, IsBracket, Effect, Edits, can_refuse, touches, WantsRoom, IfFull}
-use Rattle.py_data.proofs.Steps.{at-is}
+use Rattle.py_data.proofs.Steps.{at_is}
 use Rattle.stm_pieces.specs.PieceState.{PieceState, PieceDoes, Changes, Why}
 use Rattle.stm_pieces.specs.PieceSense.{piece_sense, piece_bracket, piece_stops}
 
@@ -22,7 +22,7 @@ changes_edits : (a : ℕ) (c : Change) (d e : PieceState) → Changes a c d e �
 changes_edits a c d e h = (
   subst IsSome (sym h.1.is) refl,
   ap (λ d. d.heap) h.3 ∙
-      ap (λ q. put_at d.heap a (after c q)) (sym (at-is d.heap a h.0 h.1.is)),
+      ap (λ q. put_at d.heap a (after c q)) (sym (at_is d.heap a h.0 h.1.is)),
 )
 
 -- each call does to the records what such a call does over any view of a part of a heap
@@ -32,9 +32,9 @@ piece_effect (Read a) d r e h = (h.0, ap (λ d. d.heap) h.1)
 piece_effect (Find a key) d r e h = (
   subst IsSome (sym h.1) refl,
   h.3 ∙
-      ap (λ q. find d.heap q.values key) (sym (at-is d.heap a h.0 h.1)),
+      ap (λ q. find d.heap q.values key) (sym (at_is d.heap a h.0 h.1)),
   ap (λ d. d.heap) h.4,
-  subst (λ q. IsKey d.heap key × ArePairs d.heap q.values) (sym (at-is d.heap a h.0 h.1)) (h.2.1, h.2.2),
+  subst (λ q. IsKey d.heap key × ArePairs d.heap q.values) (sym (at_is d.heap a h.0 h.1)) (h.2.1, h.2.2),
 )
 piece_effect (Edit a c) d r e h = changes_edits a c d e h
 piece_effect (Make q) d n e h = absurd h

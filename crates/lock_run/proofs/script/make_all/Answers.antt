@@ -1,7 +1,7 @@
 use Rattle.std.proofs.Common.{arith, subst, sym, ◌+◌}
 use Rattle.py_data.specs.Row.{Make}
 use Rattle.py_data.specs.Sense.{Asks}
-use Rattle.py_data.proofs.Steps.{stop-as}
+use Rattle.py_data.proofs.Steps.{stop_as}
 use Rattle.lock_run.specs.inner.ScriptSafe.{cell_asks}
 use Rattle.lock_run.proofs.ScriptRecords.{Making, making_first, making_more, making_refused, making_starved, making_last}
 use Rattle.lock_run.proofs.script.make_all.Goals as goal
@@ -18,7 +18,7 @@ pub returns-in_err-a : goal.returns-in_err-a
 returns-in_err-a g c =
     let d = subst (λ r. g.V.View.sense.refuses (Make r) c.loop-i.v c.in_err-a.field-0.0 c.make.new.self)
     c.in_ok-cell.ensures c.in_err-a.ensures in
-    stop-as _ _ _ _ _ _ (making_refused c.loop-i.invariant c.in_err-a.field-0.0 c.make.new.self (omega arith) d)
+    stop_as _ _ _ _ _ _ (making_refused c.loop-i.invariant c.in_err-a.field-0.0 c.make.new.self (omega arith) d)
     c.from_residual-in_err-a.ensures.1
 
 pub returns-in_err-push : goal.returns-in_err-push
@@ -26,7 +26,7 @@ returns-in_err-push g c =
     let d = subst (λ r. g.V.View.sense.does (Make r) c.loop-i.v c.in_ok-a.a.0 c.make.new.self) c.in_ok-cell.ensures
     c.in_ok-a.ensures in
     let m = making_more c.loop-i.invariant g.met.V.View.lawful c.in_ok-a.a.0 c.make.new.self (omega arith) d in
-    stop-as _ _ _ _ _ _ (making_starved m) c.from_residual-in_err-push.ensures.1
+    stop_as _ _ _ _ _ _ (making_starved m) c.from_residual-in_err-push.ensures.1
 
 pub loop-i-preserved : goal.loop-i-preserved
 loop-i-preserved g c =

@@ -4,7 +4,7 @@ use Rattle.py_data.specs.declared.value.Value.{Value}
 use Rattle.py_data.specs.Heap.{value_at}
 use Rattle.py_data.specs.Row.{Row}
 use Rattle.py_data.specs.Sense.{Meets}
-use Rattle.py_data.proofs.Steps.{stop-as}
+use Rattle.py_data.proofs.Steps.{stop_as}
 use Rattle.py_data.proofs.Turns.{each_safe, each_stop, each_more, each_raised, each_end}
 use Rattle.obj_builtins.specs.Best.{better_row}
 use Rattle.obj_builtins.proofs.Loops.{best_begin}
@@ -22,7 +22,7 @@ choose-requires-clause-safe g c = each_safe (λ i best. better_row c.args.side (
     c.turns.i (length c.args.values.now) c.turns.found (omega arith) c.turns.invariant
 
 pub returns-in_err-next : goal.returns-in_err-next
-returns-in_err-next g c = stop-as _ _ _ _ _ _
+returns-in_err-next g c = stop_as _ _ _ _ _ _
     (each_stop (λ i best. better_row c.args.side (value_at c.args.values.now i) best) _ _ c.turns.i
     (length c.args.values.now) c.turns.found (omega arith) c.turns.invariant c.in_err-next.ensures)
     c.from_residual.ensures.1

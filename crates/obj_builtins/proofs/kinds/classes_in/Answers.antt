@@ -1,6 +1,6 @@
 use Rattle.std.proofs.Common.{arith, subst, Ok}
 use Rattle.py_data.specs.Sense.{Meets}
-use Rattle.py_data.proofs.Steps.{stop-as}
+use Rattle.py_data.proofs.Steps.{stop_as}
 use Rattle.py_data.proofs.Turns.{each_safe, each_stop, each_more, each_raised, each_end}
 use Rattle.obj_builtins.specs.Kinds.{class_turn}
 use Rattle.obj_builtins.proofs.Loops.{classes_begin}
@@ -18,7 +18,7 @@ class_turn-requires-clause-safe g c = each_safe (class_turn c.args.a.0) c.turns.
     (omega arith) c.turns.invariant
 
 pub returns-in_err-next : goal.returns-in_err-next
-returns-in_err-next g c = stop-as _ _ _ _ _ _
+returns-in_err-next g c = stop_as _ _ _ _ _ _
     (each_stop (class_turn c.args.a.0) _ _ c.turns.i c.args.n c.turns.classes (omega arith) c.turns.invariant
     c.in_err-next.ensures) c.from_residual.ensures.1
 

@@ -1,6 +1,6 @@
 use Rattle.std.proofs.Common.{arith, refl, length, ℕ, Bool, false, not, ap}
 use Rattle.py_data.specs.Row.{Row}
-use Rattle.py_data.proofs.Steps.{stop-as}
+use Rattle.py_data.proofs.Steps.{stop_as}
 use Rattle.py_data.proofs.Turns.{until_safe, until_stop, until_more, until_found, until_end}
 use Rattle.obj_builtins.specs.Kinds.{any_row, class_row, class_at}
 use Rattle.obj_builtins.proofs.Loops.{any_begin}
@@ -18,7 +18,7 @@ is_of-requires-clause-safe g c = until_safe (λ i. class_row c.args.roots.0 c.ar
     not false c.turns.i (length c.args.classes.now) (omega arith) c.turns.invariant
 
 pub returns-in_err-found : goal.returns-in_err-found
-returns-in_err-found g c = stop-as _ _ _ _ _ _
+returns-in_err-found g c = stop_as _ _ _ _ _ _
     (until_stop (λ i. class_row c.args.roots.0 c.args.f (class_at c.args.classes.now i)) not false _ _ c.turns.i
     (length c.args.classes.now) (omega arith) c.turns.invariant c.in_err-found.ensures) c.from_residual.ensures.1
 

@@ -1,5 +1,5 @@
 use Rattle.std.proofs.Common.{arith, ◌∙◌, sym, None}
-use Rattle.py_data.proofs.Steps.{stop-as}
+use Rattle.py_data.proofs.Steps.{stop_as}
 use Rattle.py_data.proofs.Turns.{until_safe, until_stop, until_more, until_found, until_end}
 use Rattle.obj_class.specs.Telling.{args_pair_row, is_missing}
 use Rattle.obj_class.proofs.args.args_among.Goals as goal
@@ -9,7 +9,7 @@ args_pair-requires-clause-safe g c = until_safe (args_pair_row c.args.d.0) is_mi
     (omega arith) c.turns.invariant
 
 pub returns-in_err-found : goal.returns-in_err-found
-returns-in_err-found g c = stop-as _ _ _ _ _ _
+returns-in_err-found g c = stop_as _ _ _ _ _ _
     (until_stop (args_pair_row c.args.d.0) is_missing None _ _ c.turns.i c.args.n (omega arith) c.turns.invariant
     c.in_err-found.ensures) c.from_residual.ensures.1
 

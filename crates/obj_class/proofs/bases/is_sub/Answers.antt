@@ -1,6 +1,6 @@
 use Rattle.std.proofs.Common.{arith, false, subst, Ok}
 use Rattle.py_data.specs.Sense.{Meets}
-use Rattle.py_data.proofs.Steps.{stop-as}
+use Rattle.py_data.proofs.Steps.{stop_as}
 use Rattle.py_data.proofs.Turns.{walk_safe, walk_stop, walk_more, walk_done, walk_end}
 use Rattle.obj_class.specs.Bases.{MOST_BASES, sub_step}
 use Rattle.obj_class.proofs.bases.is_sub.Goals as goal
@@ -10,7 +10,7 @@ sub_step-requires-clause-safe g c = walk_safe (sub_step c.args.base.0) false c.t
     (omega arith) c.turns.invariant
 
 pub returns-in_err-turn : goal.returns-in_err-turn
-returns-in_err-turn g c = stop-as _ _ _ _ _ _
+returns-in_err-turn g c = stop_as _ _ _ _ _ _
     (walk_stop (sub_step c.args.base.0) false _ _ c.turns.counter MOST_BASES c.turns.at (omega arith) c.turns.invariant
     c.in_err-turn.ensures) c.from_residual.ensures.1
 

@@ -1,16 +1,16 @@
 use Rattle.py_data.specs.Row.{Do, Find}
-use Rattle.py_data.proofs.Steps.{safe-first}
+use Rattle.py_data.proofs.Steps.{safe_first}
 use Rattle.obj_dict.specs.Dict.{key_row, if_key, del_row, drop_found}
-use Rattle.obj_dict.proofs.FindSteps.{keyed-safe}
+use Rattle.obj_dict.proofs.FindSteps.{keyed_safe}
 use Rattle.obj_dict.proofs.pair.del.Goals as goal
 
 pub is_key-requires-clause-safe : goal.is_key-requires-clause-safe
 unfolding del_row
-is_key-requires-clause-safe g c = safe-first _ (key_row c.args.key)
+is_key-requires-clause-safe g c = safe_first _ (key_row c.args.key)
     (if_key (Do (Find c.args.d.0 c.args.key) (drop_found c.args.d.0 c.args.key))) _ c.requires.safe
 
 pub drop_found-requires-clause-safe : goal.drop_found-requires-clause-safe
 unfolding del_row
-drop_found-requires-clause-safe g c = keyed-safe g.V.View.sense g.met.V.View.lawful c.args.key
+drop_found-requires-clause-safe g c = keyed_safe g.V.View.sense g.met.V.View.lawful c.args.key
     (Do (Find c.args.d.0 c.args.key) (drop_found c.args.d.0 c.args.key)) c.args.v.now c.is_key.new.v
     c.in_ok-is_key.field-0 c.requires.safe c.in_ok-is_key.ensures c.if-branch.true

@@ -1,6 +1,6 @@
 use Rattle.std.proofs.Common.{arith, sym, ◌∙◌, None}
 use Rattle.py_data.specs.declared.record.Got.TheVariants.{Is}
-use Rattle.py_data.proofs.Steps.{stop-as}
+use Rattle.py_data.proofs.Steps.{stop_as}
 use Rattle.py_data.proofs.Turns.{until_safe, until_stop, until_more, until_found, until_end}
 use Rattle.obj_methods.specs.Lists.{place_row, goes_on}
 use Rattle.obj_methods.proofs.Loops.{first_begin}
@@ -17,7 +17,7 @@ place_at-requires-clause-safe g c = until_safe (place_row c.args.x c.args.a.0) g
     (omega arith) c.turns.invariant
 
 pub returns-in_err-place : goal.returns-in_err-place
-returns-in_err-place g c = stop-as _ _ _ _ _ _
+returns-in_err-place g c = stop_as _ _ _ _ _ _
     (until_stop (place_row c.args.x c.args.a.0) goes_on (Is None) _ _ c.turns.i c.args.n (omega arith)
     c.turns.invariant c.in_err-place.ensures) c.from_residual.ensures.1
 

@@ -1,7 +1,7 @@
 use Rattle.std.proofs.Common.{arith, subst, Ok}
 use Rattle.py_data.specs.Heap.{value_at}
 use Rattle.py_data.specs.Sense.{Meets}
-use Rattle.py_data.proofs.Steps.{stop-as}
+use Rattle.py_data.proofs.Steps.{stop_as}
 use Rattle.obj_methods.specs.Sorting.{word_row}
 use Rattle.obj_methods.proofs.Loops.{words_begin, words_safe, words_stop, words_more, words_raised, words_end}
 use Rattle.obj_methods.proofs.sorting.read_words.Goals as goal
@@ -17,7 +17,7 @@ add_at-requires-clause-safe g c = words_safe c.args.values.now c.turns.i c.turns
     c.turns.invariant
 
 pub returns-in_err-next : goal.returns-in_err-next
-returns-in_err-next g c = stop-as _ _ _ _ _ _
+returns-in_err-next g c = stop_as _ _ _ _ _ _
     (words_stop c.args.values.now _ _ c.turns.i c.turns.words (omega (arith, c.len-n.ensures)) c.turns.invariant
     c.in_err-next.ensures) c.from_residual.ensures.1
 

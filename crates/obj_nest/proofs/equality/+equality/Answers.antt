@@ -1,7 +1,7 @@
 use Rattle.std.proofs.Common.{arith, ◌∙◌, sym, true}
 use Rattle.std.proofs.lemmas.Grind.{common_steps}
 use Rattle.py_data.specs.declared.record.Got.TheVariants.{Is}
-use Rattle.py_data.proofs.Steps.{stop-as}
+use Rattle.py_data.proofs.Steps.{stop_as}
 use Rattle.py_data.proofs.Turns.{until_safe, until_stop, until_more, until_found, until_end}
 use Rattle.obj_nest.specs.Equal.{equal_levels, equal_under, item_row, pair_row, items_row, pairs_row, is_equal}
 use Rattle.obj_nest.proofs.LevelSteps.{level_safe, level_deep}
@@ -16,7 +16,7 @@ every_item-item-requires g t c =
     grind (arith, common_steps)
 
 pub every_item-returns-in_err-first : goal.every_item-returns-in_err-first
-every_item-returns-in_err-first g t c = stop-as _ _ _ _ _ _
+every_item-returns-in_err-first g t c = stop_as _ _ _ _ _ _
     (until_stop (item_row (equal_levels c.args.levels) c.args.a.0 c.args.b.0) is_equal (Is true) _ _ c.turns.i c.args.n
     (omega arith) c.turns.invariant c.in_err-first.ensures) c.from_residual.ensures.1
 
@@ -42,7 +42,7 @@ every_pair-pair-requires g t c =
     grind (arith, common_steps)
 
 pub every_pair-returns-in_err-first : goal.every_pair-returns-in_err-first
-every_pair-returns-in_err-first g t c = stop-as _ _ _ _ _ _
+every_pair-returns-in_err-first g t c = stop_as _ _ _ _ _ _
     (until_stop (pair_row (equal_levels c.args.levels) c.args.a.0 c.args.b.0) is_equal (Is true) _ _ c.turns.i c.args.n
     (omega arith) c.turns.invariant c.in_err-first.ensures) c.from_residual.ensures.1
 

@@ -1,7 +1,7 @@
 use Rattle.std.proofs.Common.{arith, ◌∙◌, sym, None}
 use Rattle.std.proofs.lemmas.Grind.{common_steps}
 use Rattle.py_data.specs.declared.record.Got.TheVariants.{Is}
-use Rattle.py_data.proofs.Steps.{stop-as}
+use Rattle.py_data.proofs.Steps.{stop_as}
 use Rattle.py_data.proofs.Turns.{until_safe, until_stop, until_more, until_found, until_end}
 use Rattle.obj_nest.specs.Ordering.{parts_at, turn_row, listed_row, is_open}
 use Rattle.obj_nest.proofs.LevelSteps.{order_safe, order_deep}
@@ -15,7 +15,7 @@ every_turn-turn-requires g t c =
     grind (arith, common_steps)
 
 pub every_turn-returns-in_err-first : goal.every_turn-returns-in_err-first
-every_turn-returns-in_err-first g t c = stop-as _ _ _ _ _ _
+every_turn-returns-in_err-first g t c = stop_as _ _ _ _ _ _
     (until_stop (turn_row (parts_at c.args.levels) c.args.a.0 c.args.b.0) is_open (Is None) _ _ c.turns.i c.args.n
     (omega arith) c.turns.invariant c.in_err-first.ensures) c.from_residual.ensures.1
 

@@ -1,7 +1,7 @@
 use Rattle.std.proofs.Common.{arith, Ok, subst}
 use Rattle.std.proofs.lemmas.Grind.{common_steps}
 use Rattle.py_data.specs.Sense.{Meets}
-use Rattle.py_data.proofs.Steps.{stop-as}
+use Rattle.py_data.proofs.Steps.{stop_as}
 use Rattle.py_data.proofs.Turns.{each_safe, each_stop, each_more, each_raised, each_end}
 use Rattle.py_data.specs.Looking.{each_row}
 use Rattle.obj_nest.specs.Text.{write_levels, write_under, part_row, couple_row, list_row, tuple_row, dict_row}
@@ -16,7 +16,7 @@ every_part-part-requires g t c =
     grind (arith, common_steps)
 
 pub every_part-returns-in_err-next : goal.every_part-returns-in_err-next
-every_part-returns-in_err-next g t c = stop-as _ _ _ _ _ _
+every_part-returns-in_err-next g t c = stop_as _ _ _ _ _ _
     (each_stop (part_row (write_levels c.args.levels) c.args.a.0) _ _ c.turns.i c.args.n c.turns.text (omega arith)
     c.turns.invariant c.in_err-next.ensures) c.from_residual.ensures.1
 
@@ -51,7 +51,7 @@ every_couple-couple-requires g t c =
 
 pub every_couple-returns-in_err-next : goal.every_couple-returns-in_err-next
 every_couple-returns-in_err-next g t c =
-    stop-as _ _ _ _ _ _ (each_stop (couple_row (write_levels c.args.levels) c.args.a.0) _ _ c.turns.i c.args.n
+    stop_as _ _ _ _ _ _ (each_stop (couple_row (write_levels c.args.levels) c.args.a.0) _ _ c.turns.i c.args.n
     c.turns.text (omega arith) c.turns.invariant c.in_err-next.ensures) c.from_residual.ensures.1
 
 pub every_couple-returns : goal.every_couple-returns

@@ -1,6 +1,6 @@
 use Rattle.std.proofs.Common.{arith, sym, ◌∙◌, false}
 use Rattle.py_data.specs.declared.record.Got.TheVariants.{Is}
-use Rattle.py_data.proofs.Steps.{stop-as}
+use Rattle.py_data.proofs.Steps.{stop_as}
 use Rattle.py_data.proofs.Turns.{until_safe, until_stop, until_more, until_found, until_end}
 use Rattle.obj_ops.specs.Contains.{item_row, goes_on}
 use Rattle.obj_ops.proofs.Loops.{items_begin}
@@ -17,7 +17,7 @@ equals_item-requires-clause-safe g c = until_safe (item_row c.args.x c.args.a.0)
     (omega arith) c.turns.invariant
 
 pub returns-in_err-found : goal.returns-in_err-found
-returns-in_err-found g c = stop-as _ _ _ _ _ _
+returns-in_err-found g c = stop_as _ _ _ _ _ _
     (until_stop (item_row c.args.x c.args.a.0) goes_on (Is false) _ _ c.turns.i c.args.n (omega arith)
     c.turns.invariant c.in_err-found.ensures) c.from_residual.ensures.1
 

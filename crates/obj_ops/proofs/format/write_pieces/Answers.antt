@@ -2,7 +2,7 @@ use Rattle.std.proofs.Common.{arith, ℕ, List, subst, Ok}
 use Rattle.py_data.specs.declared.record.Got.{Got}
 use Rattle.py_data.specs.Row.{Row}
 use Rattle.py_data.specs.Sense.{Meets}
-use Rattle.py_data.proofs.Steps.{stop-as}
+use Rattle.py_data.proofs.Steps.{stop_as}
 use Rattle.py_data.proofs.Turns.{each_safe, each_stop, each_more, each_raised, each_end}
 use Rattle.obj_ops.specs.Format.{piece_row, piece_at}
 use Rattle.obj_ops.proofs.Loops.{pieces_begin}
@@ -21,7 +21,7 @@ write_at-requires-clause-safe g c = each_safe
     (omega arith) c.turns.invariant
 
 pub returns-in_err-next : goal.returns-in_err-next
-returns-in_err-next g c = stop-as _ _ _ _ _ _
+returns-in_err-next g c = stop_as _ _ _ _ _ _
     (each_stop (λ i. piece_row c.args.roots.0 c.args.args.now (piece_at c.args.ps.now i)) _ _ c.turns.i c.len-n.result
     c.turns.out (omega arith) c.turns.invariant c.in_err-next.ensures) c.from_residual.ensures.1
 

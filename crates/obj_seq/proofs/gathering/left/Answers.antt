@@ -5,45 +5,45 @@ use Rattle.py_data.specs.declared.stop.Stop.TheVariants.{OutOfMemory}
 use Rattle.py_data.specs.Fault.{memory_fault}
 use Rattle.py_data.specs.Looking.{walk_row}
 use Rattle.py_data.specs.inner.Rest.{Leads}
-use Rattle.py_data.proofs.Steps.{leads-own, stop-as}
+use Rattle.py_data.proofs.Steps.{leads_own, stop_as}
 use Rattle.obj_seq.specs.Gather.{take_row, left_row}
-use Rattle.obj_seq.proofs.GatherSteps.{left-begin, left-safe, left-stop, left-more, left-end, left-raised, left-last}
+use Rattle.obj_seq.proofs.GatherSteps.{left_begin, left_safe, left_stop, left_more, left_end, left_raised, left_last}
 use Rattle.obj_seq.proofs.gathering.left.Goals as goal
 
 pub turns-init : goal.turns-init
 turns-init g c = record {
-  leads = left-begin g.V.View.sense c.args.it.0 c.args.v.now c.new-values.result c.new-values.ensures c.requires.safe
+  leads = left_begin g.V.View.sense c.args.it.0 c.args.v.now c.new-values.result c.new-values.ensures c.requires.safe
       c.requires.live;
   within = omega arith;
 }
 
 pub next-requires-clause-safe : goal.next-requires-clause-safe
-next-requires-clause-safe g c = left-safe c.args.it.0 c.turns.values c.turns.counter c.turns-test.true
+next-requires-clause-safe g c = left_safe c.args.it.0 c.turns.values c.turns.counter c.turns-test.true
     c.turns.invariant.leads
 
 pub returns-in_err-x : goal.returns-in_err-x
-returns-in_err-x g c = stop-as _ _ _ _ _ _
-    (left-stop c.args.it.0 c.turns.values c.turns.counter c.turns-test.true c.turns.invariant.leads _ _
+returns-in_err-x g c = stop_as _ _ _ _ _ _
+    (left_stop c.args.it.0 c.turns.values c.turns.counter c.turns-test.true c.turns.invariant.leads _ _
     c.in_err-x.ensures) c.from_residual.ensures.1
 
 pub returns-in_err-push-in-Is-Some : goal.returns-in_err-push-in-Is-Some
 returns-in_err-push-in-Is-Some g c =
-    let m = left-more c.args.it.0 c.turns.values c.turns.counter c.turns-test.true c.turns.invariant.leads
+    let m = left_more c.args.it.0 c.turns.values c.turns.counter c.turns-test.true c.turns.invariant.leads
     g.met.V.View.lawful _ _ c.in-Is-Some.x c.in_ok-x.ensures
     (c.in-Is-Some.is ∙ ap (λ o. Is o) c.in-Is-Some.field-0-is) in
-    stop-as _ _ _ _ OutOfMemory _ (leads-own m) c.from_residual-in_err-push-in-Is-Some.ensures.1
+    stop_as _ _ _ _ OutOfMemory _ (leads_own m) c.from_residual-in_err-push-in-Is-Some.ensures.1
 
 pub returns-in-Is-None : goal.returns-in-Is-None
-returns-in-Is-None g c = left-end c.args.it.0 c.turns.values c.turns.counter c.turns-test.true c.turns.invariant.leads
+returns-in-Is-None g c = left_end c.args.it.0 c.turns.values c.turns.counter c.turns-test.true c.turns.invariant.leads
     g.met.V.View.lawful _ _ c.in_ok-x.ensures (c.in-Is-None.is ∙ ap (λ o. Is o) c.in-Is-None.field-0-is)
 
 pub returns-in-Raise : goal.returns-in-Raise
-returns-in-Raise g c = left-raised c.args.it.0 c.turns.values c.turns.counter c.turns-test.true c.turns.invariant.leads
+returns-in-Raise g c = left_raised c.args.it.0 c.turns.values c.turns.counter c.turns-test.true c.turns.invariant.leads
     g.met.V.View.lawful _ _ c.in-Raise.e c.in_ok-x.ensures c.in-Raise.is
 
 pub turns-preserved : goal.turns-preserved
 turns-preserved g c =
-    let m = left-more c.args.it.0 c.turns.values c.turns.counter c.turns-test.true c.turns.invariant.leads
+    let m = left_more c.args.it.0 c.turns.values c.turns.counter c.turns-test.true c.turns.invariant.leads
     g.met.V.View.lawful _ _ c.in-Is-Some.x c.in_ok-x.ensures
     (c.in-Is-Some.is ∙ ap (λ o. Is o) c.in-Is-Some.field-0-is) in
     record {
@@ -54,5 +54,5 @@ turns-preserved g c =
     }
 
 pub returns : goal.returns
-returns g c = left-last g.V.View.sense c.args.it.0 c.args.v.now _ _ c.turns.counter _ c.turns-test.false
+returns g c = left_last g.V.View.sense c.args.it.0 c.args.v.now _ _ c.turns.counter _ c.turns-test.false
     c.turns.invariant.leads c.too_many.ensures

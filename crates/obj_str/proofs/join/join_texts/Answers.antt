@@ -1,6 +1,6 @@
 use Rattle.std.proofs.Common.{arith, ◌≡◌, [], Ok, subst}
 use Rattle.std.proofs.lemmas.Grind.{common_steps}
-use Rattle.py_data.proofs.Steps.{stop-as}
+use Rattle.py_data.proofs.Steps.{stop_as}
 use Rattle.obj_str.specs.Adding.{Adds}
 use Rattle.obj_str.proofs.JoinLoop.{join_safe, join_stop, join_raise, join_turn, end_safe, end_met}
 use Rattle.obj_str.proofs.join.join_texts.Goals as goal
@@ -9,7 +9,7 @@ pub add_item-requires-clause-safe : goal.add_item-requires-clause-safe
 add_item-requires-clause-safe g c = join_safe c.turns.invariant c.in-Some.x.now c.in-Some.more.now c.in-Some.ensures
 
 pub returns-in_err-longer : goal.returns-in_err-longer
-returns-in_err-longer g c = stop-as _ _ _ _ _ _
+returns-in_err-longer g c = stop_as _ _ _ _ _ _
     (join_stop c.turns.invariant c.in-Some.x.now c.in-Some.more.now c.in-Some.ensures _ _ c.in_err-longer.ensures)
     c.from_residual.ensures.1
 

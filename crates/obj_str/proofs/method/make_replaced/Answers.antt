@@ -1,11 +1,11 @@
 use Rattle.std.proofs.Common.{refl}
-use Rattle.obj_seq.proofs.CollectLoop.{starved-again}
+use Rattle.obj_seq.proofs.CollectLoop.{starved_again}
 use Rattle.obj_str.specs.Pieces as pieces
 use Rattle.obj_str.proofs.JoinLoop.{fitting_safe, fitting_met}
 use Rattle.obj_str.proofs.method.make_replaced.Goals as goal
 
 pub returns-in_err-text : goal.returns-in_err-text
-returns-in_err-text g c = starved-again _ _ _ _ _ refl c.from_residual.ensures.1
+returns-in_err-text g c = starved_again _ _ _ _ _ refl c.from_residual.ensures.1
 
 pub make_fitting-requires-clause-safe : goal.make_fitting-requires-clause-safe
 make_fitting-requires-clause-safe g c = fitting_safe g.V.View.sense

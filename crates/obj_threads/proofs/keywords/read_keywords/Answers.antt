@@ -3,7 +3,7 @@ use Rattle.std.specs.Prelude.{◌/◌}
 use Rattle.py_data.specs.declared.record.Got.{Got}
 use Rattle.py_data.specs.Row.{Row}
 use Rattle.py_data.specs.Sense.{Meets}
-use Rattle.py_data.proofs.Steps.{stop-as}
+use Rattle.py_data.proofs.Steps.{stop_as}
 use Rattle.py_data.proofs.Turns.{each_safe, each_stop, each_more, each_raised, each_end}
 use Rattle.obj_threads.specs.declared.keywords.Keywords.{Keywords}
 use Rattle.obj_threads.specs.Keywords.{keyword_row}
@@ -22,7 +22,7 @@ keyword-requires-clause-safe g c = each_safe (keyword_row c.args.keys.now) c.tur
     c.turns.k (omega arith) c.turns.invariant
 
 pub returns-in_err-next : goal.returns-in_err-next
-returns-in_err-next g c = stop-as _ _ _ _ _ _
+returns-in_err-next g c = stop_as _ _ _ _ _ _
     (each_stop (keyword_row c.args.keys.now) _ _ c.turns.i (length c.args.keys.now / 2) c.turns.k (omega arith)
     c.turns.invariant c.in_err-next.ensures) c.from_residual.ensures.1
 

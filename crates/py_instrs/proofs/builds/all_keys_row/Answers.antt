@@ -1,6 +1,6 @@
 use Rattle.std.proofs.Common.{arith, ◌≤◌, length}
 use Rattle.std.proofs.lemmas.Grind.{common_steps}
-use Rattle.py_data.proofs.Steps.{stop-as}
+use Rattle.py_data.proofs.Steps.{stop_as}
 use Rattle.py_instrs.proofs.PairLoops.{keys_safe, keys_stop, keys_more, keys_found, keys_end}
 use Rattle.py_instrs.proofs.builds.all_keys_row.Goals as goal
 
@@ -9,7 +9,7 @@ key_row-requires-clause-safe g c = keys_safe c.turns.rest.now c.in-Some.key c.in
     c.in-Some.ensures c.turns.invariant
 
 pub returns-in_err-usable : goal.returns-in_err-usable
-returns-in_err-usable g c = stop-as _ _ _ _ _ _
+returns-in_err-usable g c = stop_as _ _ _ _ _ _
     (keys_stop _ _ c.turns.rest.now c.in-Some.key c.in-Some.field-0-1 c.in-Some.more.now c.in-Some.ensures
     c.turns.invariant c.in_err-usable.ensures) c.from_residual.ensures.1
 

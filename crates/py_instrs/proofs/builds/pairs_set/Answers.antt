@@ -1,7 +1,7 @@
 use Rattle.std.proofs.Common.{arith, ◌≤◌, length, subst, Ok}
 use Rattle.std.proofs.lemmas.Grind.{common_steps}
 use Rattle.py_data.specs.Sense.{Meets}
-use Rattle.py_data.proofs.Steps.{stop-as}
+use Rattle.py_data.proofs.Steps.{stop_as}
 use Rattle.obj_dict.specs.Dict.{set_row}
 use Rattle.py_instrs.proofs.PairLoops.{set_safe, set_stop, set_more, set_raised, set_end}
 use Rattle.py_instrs.proofs.builds.pairs_set.Goals as goal
@@ -11,7 +11,7 @@ set-requires-clause-safe g c = set_safe c.args.d.0 c.turns.rest.now c.in-Some.ke
     c.in-Some.ensures c.turns.invariant
 
 pub returns-in_err-turn : goal.returns-in_err-turn
-returns-in_err-turn g c = stop-as _ _ _ _ _ _
+returns-in_err-turn g c = stop_as _ _ _ _ _ _
     (set_stop c.args.d.0 _ _ c.turns.rest.now c.in-Some.key c.in-Some.x c.in-Some.more.now c.in-Some.ensures
     c.turns.invariant c.in_err-turn.ensures) c.from_residual.ensures.1
 

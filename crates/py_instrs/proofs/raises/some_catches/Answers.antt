@@ -1,5 +1,5 @@
 use Rattle.std.proofs.Common.{arith, false, not, ap}
-use Rattle.py_data.proofs.Steps.{stop-as}
+use Rattle.py_data.proofs.Steps.{stop_as}
 use Rattle.py_data.proofs.Turns.{until_safe, until_stop, until_more, until_found, until_end}
 use Rattle.py_frames.specs.RaiseRows.{place_catches, some_catches}
 use Rattle.py_instrs.proofs.Loops.{some_begin}
@@ -16,7 +16,7 @@ place_catches-requires-clause-safe g c = until_safe (place_catches c.args.roots.
     c.turns.i c.args.n (omega arith) c.turns.invariant
 
 pub returns-in_err-found : goal.returns-in_err-found
-returns-in_err-found g c = stop-as _ _ _ _ _ _
+returns-in_err-found g c = stop_as _ _ _ _ _ _
     (until_stop (place_catches c.args.roots.0 c.args.e.0 c.args.t.0) not false _ _ c.turns.i c.args.n (omega arith)
     c.turns.invariant c.in_err-found.ensures) c.from_residual.ensures.1
 

@@ -1,7 +1,7 @@
 use Rattle.std.proofs.Common.{arith, ◌≡◌, []}
 use Rattle.std.proofs.lemmas.Grind.{common_steps}
 use Rattle.py_data.specs.declared.stop.Stop.TheVariants.{OutOfMemory}
-use Rattle.py_data.proofs.Steps.{stop-as}
+use Rattle.py_data.proofs.Steps.{stop_as}
 use Rattle.py_instrs.proofs.RootsLoop.{roots_begin, root_safe, root_stop, root_more, root_starved, roots_end}
 use Rattle.py_instrs.proofs.setup.roots_row.Goals as goal
 
@@ -16,12 +16,12 @@ root_by-requires-clause-safe g c = root_safe c.turns.rest.now c.in-Some.more.now
     c.in-Some.ensures c.turns.invariant
 
 pub returns-in_err-x : goal.returns-in_err-x
-returns-in_err-x g c = stop-as _ _ _ _ _ _
+returns-in_err-x g c = stop_as _ _ _ _ _ _
     (root_stop _ _ c.turns.rest.now c.in-Some.more.now c.in-Some.r.now c.turns.values c.in-Some.ensures
     c.turns.invariant c.in_err-x.ensures) c.from_residual.ensures.1
 
 pub returns-in_err-push : goal.returns-in_err-push
-returns-in_err-push g c = stop-as _ _ _ _ OutOfMemory _
+returns-in_err-push g c = stop_as _ _ _ _ OutOfMemory _
     (root_starved g.met.V.View.lawful _ c.in_ok-x.x c.turns.rest.now c.in-Some.more.now c.in-Some.r.now c.turns.values
     c.in-Some.ensures c.turns.invariant c.in_ok-x.ensures) c.from_residual-in_err-push.ensures.1
 

@@ -1,7 +1,7 @@
 use Rattle.std.proofs.Common.{rules, arith, ◌≡◌, ap, ◌∙◌, ◌++◌, false}
 use Rattle.heap_lock.specs.Parts.{merged}
 use Rattle.heap_lock.specs.Views.{SeatView}
-use Rattle.heap_lock.proofs.PartsLemmas.{merged_some, descending-merged, length-merged}
+use Rattle.heap_lock.proofs.PartsLemmas.{merged_some, descending_merged, length_merged}
 use Rattle.heap_lock.proofs.RuleLemmas.{joins_lock, seat_with}
 use Rattle.heap_lock.proofs.lock.HeapLock.join.Goals as goal
 
@@ -30,7 +30,7 @@ invariant_of-seat g c =
     let seen = c.into_inner.result.me.0.seen in
     rw c.join_seat.ensures.2
     (seat_with seat (merged other seat.0.parts) (seat.0.seen ++ seen) is (merged_some other seat.0.parts is.live)
-    (descending-merged other seat.0.parts is.descending))
+    (descending_merged other seat.0.parts is.descending))
 
 pub returns-clause-count : goal.returns-clause-count
 returns-clause-count g c =
@@ -38,7 +38,7 @@ returns-clause-count g c =
     ap (λ (s : SeatView g.row.T.Denot g.row.T-Description.Denot). s.parts) c.seat.view_is in
     rw (
       c.join_seat.ensures.2,
-      length-merged c.into_inner.result.me.0.parts c.seat.inside.inner.me.0.parts,
+      length_merged c.into_inner.result.me.0.parts c.seat.inside.inner.me.0.parts,
       mine,
       c.into_inner.ensures.parts,
     ) (omega arith)

@@ -1,6 +1,6 @@
 use Rattle.std.proofs.Common.{◌≡◌, ◌≢◌, arith, List, [], ◌∷◌, ◌++◌, Option, Some, sym, ap, ◌∙◌}
 use Rattle.heap_lock.specs.Parts.{all_parts}
-use Rattle.heap_lock.proofs.PartsLemmas.{some_from_length, length-all_parts, has_all_parts, descending-all_parts}
+use Rattle.heap_lock.proofs.PartsLemmas.{some_from_length, length_all_parts, has_all_parts, descending_all_parts}
 use Rattle.heap_lock.proofs.RuleLemmas.{makes_lock, free_seat}
 use Rattle.heap_lock.proofs.lock.HeapLock.new.Goals as goal
 
@@ -16,13 +16,13 @@ new-made-requires g c =
 pub invariant_of-result-in-Ok-made : goal.invariant_of-result-in-Ok-made
 invariant_of-result-in-Ok-made g c =
     let n = c.args.parts in
-    let some : all_parts n ≢ [] = some_from_length (all_parts n) (let length = length-all_parts n in let least =
+    let some : all_parts n ≢ [] = some_from_length (all_parts n) (let length = length_all_parts n in let least =
     c.requires.parts in omega arith) in
     rw c.in-Ok-made.ensures.ok.4 (free_seat (all_parts n) (Some (g.T.Job.job c.of.result.value))
-    (c.of.result.value ∷ []) some (descending-all_parts n))
+    (c.of.result.value ∷ []) some (descending_all_parts n))
 
 pub returns-in-Ok-made-clause-count : goal.returns-in-Ok-made-clause-count
-returns-in-Ok-made-clause-count g c = rw c.in-Ok-made.ensures.ok.4 (length-all_parts c.args.parts)
+returns-in-Ok-made-clause-count g c = rw c.in-Ok-made.ensures.ok.4 (length_all_parts c.args.parts)
 
 pub returns-in-Ok-made-clause-all : goal.returns-in-Ok-made-clause-all
 returns-in-Ok-made-clause-all g c = rw (c.in-Ok-made.ensures.ok.4, c.in-Ok-made.ensures.ok.5)

@@ -1,7 +1,7 @@
 use Rattle.std.proofs.Common.{◌≡◌, ◌≢◌, All, length, take, ap, ◌∙◌, subst, arith}
 use Rattle.std.proofs.lemmas.List.{take_min}
-use Rattle.pystm.proofs.Known.{Keeps-trans}
-use Rattle.pystm.proofs.Line.{found-known, full-known, end-known}
+use Rattle.pystm.proofs.Known.{Keeps_trans}
+use Rattle.pystm.proofs.Line.{found_known, full_known, end_known}
 use Rattle.pystm.proofs.buffer.LineBuffer.hold_line.Goals as goal
 
 pub returns-in-Some-clause-line : goal.returns-in-Some-clause-line
@@ -11,13 +11,13 @@ returns-in-Some-clause-line g c =
     let m = c.min-end.ensures in
     let w : take c.min-end.result c.held-held.result.now ≡ take c.args.most c.loop-seen.self =
     ap (λ n. take n c.held-held.result.now) m ∙ take_min c.args.most c.held-held.result.now ∙ ap (take c.args.most) h in
-    found-known _ _ _ _ _ _ keeps w c.in-Some.ensures.first c.in-Some.ensures.newline
+    found_known _ _ _ _ _ _ keeps w c.in-Some.ensures.first c.in-Some.ensures.newline
 
 pub returns-after-loop-seen-clause-line : goal.returns-after-loop-seen-clause-line
 returns-after-loop-seen-clause-line g c =
     let (seen, held, none, keeps) = c.loop-seen.invariant in
     let past = c.loop-seen-test.false in
-    full-known _ _ _ _ _ keeps held (omega arith) none
+    full_known _ _ _ _ _ keeps held (omega arith) none
 
 pub returns-then-branch-eq0-clause-line : goal.returns-then-branch-eq0-clause-line
 returns-then-branch-eq0-clause-line g c =
@@ -30,6 +30,6 @@ returns-then-branch-eq0-clause-line g c =
     let more = read.more in
     let w : take c.min-end.result c.held-held.result.now ≡ take c.min-end.result c.loop-seen.self =
     ap (take c.min-end.result) c.held-held.ensures in
-    end-known _ _ c.loop-seen.self c.read_more.new.self c.args.most c.min-end.result
-    (Keeps-trans _ _ _ keeps read.bytes) (read.end nothing)
+    end_known _ _ c.loop-seen.self c.read_more.new.self c.args.most c.min-end.result
+    (Keeps_trans _ _ _ keeps read.bytes) (read.end nothing)
     (omega arith) read.front (omega arith) (omega arith) (subst (All (λ b. b ≢ 10)) w c.in_default.ensures.none)
