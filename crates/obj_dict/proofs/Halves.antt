@@ -13,6 +13,7 @@ use Rattle.py_data.specs.Heap.{Rec, at, value_at, new_rec}
 use Rattle.py_data.specs.Row.{Row, Ret, Do, Read, Make}
 use Rattle.py_data.specs.Sense.{Sense, Lawful, Meets, Safe}
 use Rattle.py_data.specs.inner.Rest.{Leads, Stands}
+use Rattle.py_data.proofs.AfterLook.{stands_made}
 use Rattle.py_data.proofs.Rows.{meets_own, meets_do, read_heap, safe_next}
 use Rattle.py_data.proofs.Steps.{stands_again, as_err, at_is, leads_do, leads_ret}
 use Rattle.obj_dict.specs.Listing.{half, tuples_row}
@@ -38,40 +39,6 @@ half_end second [] (suc i) h = let b : 2 * suc i ≡ suc (suc (2 * i)) = omega a
 half_end second (k ∷ []) (suc i) h = let b : 2 * suc i ≡ suc (suc (2 * i)) = omega arith in rw b refl
 half_end second (k ∷ x ∷ rest) (suc i) h = let b : 2 * suc i ≡ suc (suc (2 * i)) = omega arith in
     rw b (ap (λ t. cond second x k ∷ t) (half_end second rest i (omega arith)))
-
-module _ {S X : Type 0} (u : Sense S X) where
-  -- a further look, while the view is as it was
-  pub looked_again : (L : Lawful u) {a : ℕ} {r q : Rec} {v w x : X} → Stands u a r v → w ≡ v → u.does (Read a) w q x →
-      x ≡ v
-  looked_again L {a = a} {r = r} {q = q} h e d = stands_again L q (subst (Stands u a r) (sym e) h) d ∙ e
-
-  -- no memory of its own, while the view is as it was
-  pub starved_again : {A : Type 0} (row : Row S A) (v w : X) (res : Result A Stop) → w ≡ v →
-      IsErrAnd res (λ e. e ≡ OutOfMemory) → Meets u row v w res
-  starved_again row v w res e h = subst (λ r. Meets u row v w r) (sym (as_err res OutOfMemory h))
-      (subst (λ z. Meets u row v z (Err OutOfMemory)) (sym e) (meets_own u row v))
-
-  pub value_before : (a : ℕ) (v w : X) (x : Value) (i : ℕ) → w ≡ v → x ≡ value_at (at (u.heap w) a).values i →
-      x ≡ value_at (at (u.heap v) a).values i
-  value_before a v w x i e h = subst (λ z. x ≡ value_at (at (u.heap z) a).values i) e h
-
-  -- a row that looks first, and goes on with what it saw
-  pub look_then : {A : Type 0} (L : Lawful u) (a : ℕ) (k : Rec → Row S A) (v m w : X) (res : Result A Stop) →
-      u.does (Read a) v (at (u.heap v) a) m → Meets u (k (at (u.heap m) a)) m w res → Meets u (Do (Read a) k) v w res
-  look_then L a k v m w res d h =
-      let same : at (u.heap m) a ≡ at (u.heap v) a = ap (λ h. at h a) (read_heap L a v m (at (u.heap v) a) d) in
-      meets_do u (Read a) k v m w (at (u.heap v) a) res d (subst (λ r. Meets u (k r) m w res) same h)
-
--- a record stands when another was made
-stands_made : {S X : Type 0} {u : Sense S X} (L : Lawful u) {a b : ℕ} {r made : Rec} {w x : X} → Stands u a r w →
-    u.does (Make made) w b x → Stands u a r x
-stands_made {u = u} L {a = a} {b = b} {r = r} {made = made} {w = w} {x = x} h d =
-    let e = L.effect (Make made) w b x d in
-    let new : a ≢ b = λ same. let s = h.is in let n = e.0 in let s1 = ap (u.heap w) same in absurd (cc) in
-    record {
-      is = ap (λ g. g a) e.1 ∙ cond-false (eqb a b) (Some made) (u.heap w a) (ne_eqb a b new) ∙ h.is;
-      seen = L.stays (Make made) w b x a d h.seen;
-    }
 
 -- before the turn for pair i
 pub record Tupling {S X : Type 0} (u : Sense S X) (d n : ℕ) (vs : List Value) (i : ℕ) (refs : List Value)
@@ -151,11 +118,3 @@ pair_read {u = u} L {d = d} {n = n} {vs = vs} {i = i} {refs = refs} {v = v} key 
       key = e ∙ ap (λ l. value_at l (2 * i)) (tupling_here h);
       value = f ∙ ap (λ l. value_at l (2 * i + 1)) (tupling_here h1);
     }
-
--- what a row asks behind a look
-pub safe_looked : {S X A : Type 0} {u : Sense S X} (L : Lawful u) (a : ℕ) (k : Rec → Row S A) (v m : X) →
-    u.does (Read a) v (at (u.heap v) a) m → Safe u.partial (Do (Read a) k) (u.heap v) →
-    Safe u.partial (k (at (u.heap m) a)) (u.heap m)
-safe_looked {u = u} L a k v m d s =
-    let same : at (u.heap m) a ≡ at (u.heap v) a = ap (λ h. at h a) (read_heap L a v m (at (u.heap v) a) d) in
-    subst (λ r. Safe u.partial (k r) (u.heap m)) (sym same) (safe_next L (Read a) k v m (at (u.heap v) a) s d)

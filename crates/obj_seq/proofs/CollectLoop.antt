@@ -25,19 +25,3 @@ part_next xs i k x l h e =
 
 pub part_same : (xs : List Value) (i j k : ℕ) → k - i ≡ j - i → part xs i k ≡ part xs i j
 part_same xs i j k e = ap (λ n. take n (drop i xs)) e
-
-module _ {S X : Type 0} (u : Sense S X) where
-  -- a further look, while the view is as it was
-  pub looked_again : (L : Lawful u) {a : ℕ} {r q : Rec} {v w x : X} → Stands u a r v → w ≡ v → u.does (Read a) w q x →
-      x ≡ v
-  looked_again L {a = a} {r = r} {q = q} h e d = stands_again L q (subst (Stands u a r) (sym e) h) d ∙ e
-
-  -- no memory of its own, while the view is as it was
-  pub starved_again : {A : Type 0} (row : Row S A) (v w : X) (res : Result A Stop) → w ≡ v →
-      IsErrAnd res (λ e. e ≡ OutOfMemory) → Meets u row v w res
-  starved_again row v w res e h = subst (λ r. Meets u row v w r) (sym (as_err res OutOfMemory h))
-      (subst (λ z. Meets u row v z (Err OutOfMemory)) (sym e) (meets_own u row v))
-
-  pub value_before : (a : ℕ) (v w : X) (x : Value) (i : ℕ) → w ≡ v → x ≡ value_at (at (u.heap w) a).values i →
-      x ≡ value_at (at (u.heap v) a).values i
-  value_before a v w x i e h = subst (λ z. x ≡ value_at (at (u.heap z) a).values i) e h

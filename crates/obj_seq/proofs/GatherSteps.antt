@@ -20,6 +20,7 @@ use Rattle.py_data.specs.Heap.{Rec, at, value_at, new_rec}
 use Rattle.py_data.specs.Row.{Row, Ret, Do, Read, Make}
 use Rattle.py_data.specs.Sense.{Sense, Lawful, Asks, Safe, Meets, Run, Stopped, IsLive}
 use Rattle.py_data.specs.inner.Rest.{Leads, Stands}
+use Rattle.py_data.proofs.AfterLook.{stands_made}
 use Rattle.py_data.proofs.Rows.{meets_ret, meets_answer, meets_do, read_heap, safe_next}
 use Rattle.py_data.proofs.Steps.{stands_again, there_is, at_is, safe_first, meets_bind, meets_bind_err, leads_begin, leads_do, leads_ret}
 use Rattle.py_data.proofs.Turns.{walk_safe, walk_stop, walk_more, walk_done, walk_end}
@@ -50,20 +51,6 @@ module _ {S X : Type 0} (u : Sense S X) where
   unfolding Meets Run
   ret_is x y v w same e = (e, same)
 
-  -- a row that looks first, and goes on with what it saw
-  pub look_then : {A : Type 0} (L : Lawful u) (a : ℕ) (k : Rec → Row S A) (v m w : X) (res : Result A Stop) →
-      u.does (Read a) v (at (u.heap v) a) m → Meets u (k (at (u.heap m) a)) m w res → Meets u (Do (Read a) k) v w res
-  look_then L a k v m w res d h =
-      let same : at (u.heap m) a ≡ at (u.heap v) a = ap (λ h. at h a) (read_heap L a v m (at (u.heap v) a) d) in
-      meets_do u (Read a) k v m w (at (u.heap v) a) res d (subst (λ r. Meets u (k r) m w res) same h)
-
-  pub safe_looked : {A : Type 0} (L : Lawful u) (a : ℕ) (k : Rec → Row S A) (v m : X) →
-      u.does (Read a) v (at (u.heap v) a) m → Safe u.partial (Do (Read a) k) (u.heap v) →
-      Safe u.partial (k (at (u.heap m) a)) (u.heap m)
-  safe_looked L a k v m d s =
-      let same : at (u.heap m) a ≡ at (u.heap v) a = ap (λ h. at h a) (read_heap L a v m (at (u.heap v) a) d) in
-      subst (λ r. Safe u.partial (k r) (u.heap m)) (sym same) (safe_next L (Read a) k v m (at (u.heap v) a) s d)
-
 whole : (vs : List Value) → take (length vs) vs ≡ vs
 whole [] = refl
 whole (x ∷ vs) = ap (λ t. x ∷ t) (whole vs)
@@ -92,17 +79,6 @@ keys_end (k ∷ x ∷ rest) (suc i) h = let b : 2 * suc i ≡ suc (suc (2 * i)) 
     rw b (ap (λ t. k ∷ t) (keys_end rest i (omega arith)))
 
 -- ---- letters
--- a record stands when another was made
-stands_made : {S X : Type 0} {u : Sense S X} (L : Lawful u) {a b : ℕ} {r made : Rec} {w x : X} → Stands u a r w →
-    u.does (Make made) w b x → Stands u a r x
-stands_made {u = u} L {a = a} {b = b} {r = r} {made = made} {w = w} {x = x} h d =
-    let e = L.effect (Make made) w b x d in
-    let new : a ≢ b = λ same. let s = h.is in let n = e.0 in let s1 = ap (u.heap w) same in absurd (cc) in
-    record {
-      is = ap (λ g. g a) e.1 ∙ cond-false (eqb a b) (Some made) (u.heap w a) (ne_eqb a b new) ∙ h.is;
-      seen = L.stays (Make made) w b x a d h.seen;
-    }
-
 -- before the turn for byte i
 pub record Lettering {S X : Type 0} (u : Sense S X) (a n : ℕ) (bs : List ℕ) (i : ℕ) (refs : List Value)
     (v w : X) : Type 0 where

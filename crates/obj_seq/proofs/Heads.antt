@@ -19,7 +19,7 @@ use Rattle.obj_seq.specs.declared.advance.Ahead.{Ahead}
 use Rattle.obj_seq.specs.declared.advance.Ahead.TheVariants.{Text, Changed, Item}
 use Rattle.obj_seq.specs.Iter.{three, pick, has_changed, is_str, go_or_end, byte_or_end, next_over}
 use Rattle.obj_seq.specs.inner.Heads.{three_in, ahead_of, ahead_row}
-use Rattle.obj_seq.proofs.AfterLook.{leads_looked, looked_record}
+use Rattle.py_data.proofs.AfterLook.{leads_looked, looked_record}
 
 -- the look tells whether there are three values, and which
 pub three_of_head : (r : Rec) → three_in (head_of r) ≡ three r.values

@@ -11,7 +11,7 @@ use Rattle.py_data.proofs.Steps.{leads_begin, leads_do}
 use Rattle.py_data.specs.inner.Rest.{Leads}
 use Rattle.py_data.proofs.Rows.{again}
 use Rattle.obj_seq.specs.Iter.{count_of, is_iter, iter_of, make_iter_row, next_with, parts_of, go_or_end, byte_or_end, next_row}
-use Rattle.obj_seq.proofs.AfterLook.{leads_looked, looked_record}
+use Rattle.py_data.proofs.AfterLook.{leads_looked, looked_record}
 
 pub iter_leads : {S X : Type 0} {u : Sense S X} (L : Lawful u) {a : ℕ} {v m x : X} {q : Rec} (o : Option ℕ) →
     u.does (Read a) v (at (u.heap v) a) m → u.does (Read a) m q x → is_iter (at (u.heap v) a).kind ≡ false

@@ -1,8 +1,7 @@
 mod Places
 mod Tail
 mod GapLoop
-pub mod CollectLoop
-pub mod AfterLook
+mod CollectLoop
 mod PartSteps
 mod ReverseLoop
 mod Forms

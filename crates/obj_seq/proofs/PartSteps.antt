@@ -13,7 +13,7 @@ use Rattle.py_data.specs.inner.Rest.{Leads}
 use Rattle.py_data.proofs.Rows.{again}
 use Rattle.py_data.proofs.Steps.{leads_own}
 use Rattle.obj_seq.specs.Seq.{part, bound_or, slice_at, slice_row}
-use Rattle.obj_seq.proofs.AfterLook.{leads_looked, looked_record}
+use Rattle.py_data.proofs.AfterLook.{leads_looked, looked_record}
 use Rattle.obj_seq.proofs.Places.{slice_is}
 
 module _ {S X A : Type 0} (u : Sense S X) where

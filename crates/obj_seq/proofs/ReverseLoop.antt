@@ -12,7 +12,7 @@ use Rattle.py_data.specs.inner.Rest.{Leads}
 use Rattle.py_data.proofs.Steps.{leads_do, leads_ret}
 use Rattle.obj_seq.specs.Seq.{part, put_row, reverse_row}
 use Rattle.obj_seq.proofs.Tail.{drop_next}
-use Rattle.obj_seq.proofs.AfterLook.{leads_looked, looked_record}
+use Rattle.py_data.proofs.AfterLook.{leads_looked, looked_record}
 use Rattle.obj_seq.proofs.PartSteps.{answered}
 
 -- before the turn at place j

@@ -13,7 +13,7 @@ use Rattle.py_data.specs.Looking.{bytes_row}
 use Rattle.py_data.proofs.Rows.{read_heap, read_at, again, meets_do, meets_ret}
 use Rattle.py_data.proofs.Steps.{stands_again, stands_read, there_is}
 use Rattle.py_data.specs.Fault.{argument_fault}
-use Rattle.obj_seq.proofs.AfterLook.{looked_record, leads_looked}
+use Rattle.py_data.proofs.AfterLook.{looked_record, leads_looked}
 use Rattle.obj_seq.specs.Iter.{is_str}
 use Rattle.obj_str.specs.Methods.{text_in, text_at}
 

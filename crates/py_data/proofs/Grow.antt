@@ -7,7 +7,7 @@ use Rattle.py_data.specs.declared.change.Change.{Change}
 use Rattle.py_data.specs.declared.change.Change.TheVariants.{Set, Push, Cut, Pair, Unpair}
 use Rattle.py_base.specs.declared.kind.Kind.{Kind}
 use Rattle.py_data.specs.Changes.{after, IsFor}
-use Rattle.py_data.specs.Heap.{Heap, Rec, put_at, is_tracked, with_push}
+use Rattle.py_data.specs.Heap.{Heap, Marks, Rec, put_at, is_tracked, with_push}
 use Rattle.py_data.specs.Row.{Call, Reply, Row, Ret, Do, Read, Find, Edit, Make, Start, Put, Take, MidLine, SetMidLine}
 use Rattle.py_data.specs.Sense.{Run}
 use Rattle.py_data.specs.Sight.{Sight, Act, Does, looked_at, edited, made_new, started_one, in_world, mem}
@@ -65,19 +65,26 @@ mem_append a [] ys = refl
 mem_append a (x ∷ xs) ys = elim (eqb a x) as (λ b. (b || mem a (xs ++ ys)) ≡ ((b || mem a xs) || mem a ys))
     [ true ↦ refl | false ↦ mem_append a xs ys ]
 
-pub grows_refl : {S : Type 0} (s : Sight S) → Grows s s
-grows_refl s = record {
-  looked = λ a h. h;
+-- where no record is changed or made: what was looked at and whether the world was used only rise, and an unused world
+-- stays
+pub grows_beside : {S : Type 0} (s : Sight S) (looked : Marks) (started : List S) (world : World) (used : Bool) →
+    ((a : ℕ) → s.looked a ≡ true → looked a ≡ true) → (s.used ≡ true → used ≡ true) → (used ≡ false → world ≡ s.world)
+    → Grows s (record s { looked = looked; started = started; world = world; used = used })
+grows_beside s looked started world used marks uses stays = record {
+  looked = marks;
   touched = λ a h. h;
-  used = λ h. h;
+  used = uses;
   same = λ a h. refl;
-  world = λ h. refl;
+  world = stays;
   kept = λ a r h. (r, h, kept_same r);
   fixed = λ a r h e. h;
   seen = λ a r h g e. absurd (both_ways (s.touched a) h g);
   fresh = λ a h g e. absurd (both_ways (s.touched a) h g);
   names = λ a e. e;
 }
+
+pub grows_refl : {S : Type 0} (s : Sight S) → Grows s s
+grows_refl s = grows_beside s s.looked s.started s.world s.used (λ a h. h) (λ h. h) (λ h. refl)
 
 -- a test that was true stays so: one that is false was false
 pub back : (x y : Bool) → (x ≡ true → y ≡ true) → y ≡ false → x ≡ false
@@ -105,46 +112,14 @@ grows_trans s t u g h = record {
 }
 
 pub grows_look : {S : Type 0} (a : ℕ) (r : Rec) (s : Sight S) → Grows s (looked_at a r s)
-grows_look a r s = record {
-  looked = λ b e. or_right (eqb b a && is_tracked r.kind) (s.looked b) e;
-  touched = λ a h. h;
-  used = λ h. h;
-  same = λ a h. refl;
-  world = λ h. refl;
-  kept = λ a r h. (r, h, kept_same r);
-  fixed = λ a r h e. h;
-  seen = λ a r h g e. absurd (both_ways (s.touched a) h g);
-  fresh = λ a h g e. absurd (both_ways (s.touched a) h g);
-  names = λ a e. e;
-}
+grows_look a r s = grows_beside s _ s.started s.world s.used
+    (λ b e. or_right (eqb b a && is_tracked r.kind) (s.looked b) e) (λ h. h) (λ h. refl)
 
 pub grows_start : {S : Type 0} (p : S) (s : Sight S) → Grows s (started_one p s)
-grows_start p s = record {
-  looked = λ a h. h;
-  touched = λ a h. h;
-  used = λ h. h;
-  same = λ a h. refl;
-  world = λ h. refl;
-  kept = λ a r h. (r, h, kept_same r);
-  fixed = λ a r h e. h;
-  seen = λ a r h g e. absurd (both_ways (s.touched a) h g);
-  fresh = λ a h g e. absurd (both_ways (s.touched a) h g);
-  names = λ a e. e;
-}
+grows_start p s = grows_beside s s.looked _ s.world s.used (λ a h. h) (λ h. h) (λ h. refl)
 
 pub grows_world : {S : Type 0} (w : World) (s : Sight S) → Grows s (in_world w s)
-grows_world w s = record {
-  looked = λ a h. h;
-  touched = λ a h. h;
-  used = λ h. refl;
-  same = λ a h. refl;
-  world = λ h. absurd (both_ways true h refl);
-  kept = λ a r h. (r, h, kept_same r);
-  fixed = λ a r h e. h;
-  seen = λ a r h g e. absurd (both_ways (s.touched a) h g);
-  fresh = λ a h g e. absurd (both_ways (s.touched a) h g);
-  names = λ a e. e;
-}
+grows_world w s = grows_beside s s.looked s.started w true (λ a h. h) (λ h. refl) (λ h. absurd (both_ways true h refl))
 
 pub grows_edit : {S : Type 0} (a : ℕ) (r r' : Rec) (s : Sight S) → s.heap a ≡ Some r → is_tracked r.kind ≡ true →
     KeptAs r r' → Grows s (edited a r' s)

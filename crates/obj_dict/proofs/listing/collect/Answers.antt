@@ -2,7 +2,8 @@ use Rattle.std.proofs.Common.{◌<◌, ◌≤◌, ◌+◌, ◌*◌, ◌++◌, �
 use Rattle.py_data.specs.Heap.{at, value_at}
 use Rattle.py_data.specs.Sense.{Meets, Run}
 use Rattle.obj_dict.specs.Listing.{half}
-use Rattle.obj_dict.proofs.Halves.{half_next, half_end, looked_again, starved_again, value_before}
+use Rattle.py_data.proofs.AfterLook.{looked_again, starved_again, value_before}
+use Rattle.obj_dict.proofs.Halves.{half_next, half_end}
 use Rattle.obj_dict.proofs.listing.collect.Goals as goal
 
 pub returns-in_err-push : goal.returns-in_err-push

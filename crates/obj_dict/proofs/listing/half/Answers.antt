@@ -1,6 +1,6 @@
 use Rattle.py_data.specs.Row.{Ret}
 use Rattle.obj_dict.specs.Listing.{half}
-use Rattle.obj_dict.proofs.Halves.{look_then}
+use Rattle.py_data.proofs.AfterLook.{look_then}
 use Rattle.obj_dict.proofs.listing.half.Goals as goal
 
 pub returns : goal.returns

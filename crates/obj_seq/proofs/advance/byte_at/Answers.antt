@@ -3,7 +3,7 @@ use Rattle.std.proofs.lemmas.Option.{slice_get_past}
 use Rattle.py_data.specs.Heap.{at}
 use Rattle.py_data.specs.Row.{Read}
 use Rattle.py_data.proofs.Rows.{again}
-use Rattle.obj_seq.proofs.AfterLook.{looked_record}
+use Rattle.py_data.proofs.AfterLook.{looked_record}
 use Rattle.obj_seq.proofs.Forms.{one_byte}
 use Rattle.obj_seq.proofs.advance.byte_at.Goals as goal
 

@@ -3,7 +3,7 @@ use Rattle.py_data.specs.declared.record.Got.TheVariants.{Is}
 use Rattle.py_data.specs.Row.{Ret}
 use Rattle.obj_seq.specs.Seq.{del_item_at, gap_row}
 use Rattle.obj_seq.proofs.Places.{at_place, place_found}
-use Rattle.obj_seq.proofs.AfterLook.{after_look}
+use Rattle.py_data.proofs.AfterLook.{after_look}
 use Rattle.obj_seq.proofs.change.del_item.Goals as goal
 
 pub returns-in_ok-close_gap-in-Some : goal.returns-in_ok-close_gap-in-Some

@@ -5,7 +5,7 @@ use Rattle.py_data.specs.Heap.{at}
 use Rattle.py_data.specs.Row.{Ret}
 use Rattle.obj_seq.specs.Seq.{insert_at, shift_row}
 use Rattle.obj_seq.proofs.Places.{bound_found, insert_is}
-use Rattle.obj_seq.proofs.AfterLook.{after_look}
+use Rattle.py_data.proofs.AfterLook.{after_look}
 use Rattle.obj_seq.proofs.change.insert.Goals as goal
 
 pub returns-in_ok-open_gap : goal.returns-in_ok-open_gap

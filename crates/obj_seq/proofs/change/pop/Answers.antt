@@ -6,7 +6,7 @@ use Rattle.py_data.proofs.Rows.{again}
 use Rattle.py_data.proofs.Steps.{stop_as, safe_first, leads_call_stop}
 use Rattle.obj_seq.specs.Seq.{pop_at, gap_row}
 use Rattle.obj_seq.proofs.Places.{pop_is, place_found}
-use Rattle.obj_seq.proofs.AfterLook.{leads_looked}
+use Rattle.py_data.proofs.AfterLook.{leads_looked}
 use Rattle.obj_seq.proofs.change.pop.Goals as goal
 
 pub close_gap-requires-clause-safe : goal.close_gap-requires-clause-safe

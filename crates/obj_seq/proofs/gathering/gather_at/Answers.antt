@@ -1,5 +1,5 @@
 use Rattle.obj_seq.specs.Gather.{gather_of}
-use Rattle.obj_seq.proofs.GatherSteps.{look_then, safe_looked}
+use Rattle.py_data.proofs.AfterLook.{look_then, safe_looked}
 use Rattle.obj_seq.proofs.gathering.gather_at.Goals as goal
 
 pub gather_from-requires-clause-safe : goal.gather_from-requires-clause-safe

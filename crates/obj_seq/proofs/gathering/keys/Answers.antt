@@ -2,7 +2,7 @@ use Rattle.std.proofs.Common.{◌<◌, ◌≤◌, ◌+◌, ◌*◌, ◌++◌, �
 use Rattle.py_data.specs.Heap.{at}
 use Rattle.py_data.specs.declared.record.Got.TheVariants.{Is}
 use Rattle.obj_seq.specs.Gather.{keys_of}
-use Rattle.obj_seq.proofs.CollectLoop.{looked_again, starved_again, value_before}
+use Rattle.py_data.proofs.AfterLook.{looked_again, starved_again, value_before}
 use Rattle.obj_seq.proofs.GatherSteps.{stands_asks, ret_is, keys_next, keys_end}
 use Rattle.obj_seq.proofs.gathering.keys.Goals as goal
 

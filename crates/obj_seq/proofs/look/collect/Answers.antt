@@ -1,6 +1,7 @@
 use Rattle.std.proofs.Common.{arith, ap, sym, ◌∙◌, ◌++◌, ◌∷◌, []}
 use Rattle.py_data.specs.Sense.{Meets, Run}
-use Rattle.obj_seq.proofs.CollectLoop.{part_next, part_same, looked_again, starved_again, value_before}
+use Rattle.py_data.proofs.AfterLook.{looked_again, starved_again, value_before}
+use Rattle.obj_seq.proofs.CollectLoop.{part_next, part_same}
 use Rattle.obj_seq.proofs.look.collect.Goals as goal
 
 pub returns-in_err-push : goal.returns-in_err-push

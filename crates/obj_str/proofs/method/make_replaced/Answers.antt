@@ -1,5 +1,5 @@
 use Rattle.std.proofs.Common.{refl}
-use Rattle.obj_seq.proofs.CollectLoop.{starved_again}
+use Rattle.py_data.proofs.AfterLook.{starved_again}
 use Rattle.obj_str.specs.Pieces as pieces
 use Rattle.obj_str.proofs.JoinLoop.{fitting_safe, fitting_met}
 use Rattle.obj_str.proofs.method.make_replaced.Goals as goal
