@@ -8,7 +8,7 @@ ghost use Rattle.py_data.specs.Heap.{put_at};
 ghost use Rattle.py_data.specs.Sense.{IfThere};
 ghost use Rattle.py_data.specs.Journal.{CanRestore, IsChanged, IsUndoable, restore_at, undoable_prop};
 
-use py_data::{Change, Entry, NoMemory, Records, Undo};
+use py_data::{Change, Entry, NoMemory, Records, Undo, note};
 use std::alloc::Global;
 use std::collections::BTreeMap;
 
@@ -51,17 +51,6 @@ fn restore(records: &mut BTreeMap<u32, Entry>, a: u32, undo: Option<Undo>)
         None => {
             let _ = records.remove(&a);
         }
-    }
-}
-
-/// Adds an entry to a journal that has room for it.
-fn note(journal: &mut Vec<(u32, Option<Undo>)>, a: u32, undo: Option<Undo>)
-    requires { vec_len journal.old < vec_capacity journal.old }
-    ensures { journal.new.items ≡ journal.old.items ++ (a, undo) ∷ [] }
-{
-    match journal.push((a, undo)) {
-        Ok(()) => (),
-        Err(_) => unreachable!(),
     }
 }
 

@@ -31,6 +31,6 @@ pub use py_base::{
 };
 pub use record::{Fault, Got, Head, LENGTH_LIMIT, Record, With};
 pub use stop::{Conflict, Conflicts, Out, Side, Stop};
-pub use undo::Undo;
+pub use undo::{Undo, note};
 pub use value::{Addr, Names, Value, Values, value_or_unset};
 pub use view::{Peek, View};

@@ -10,19 +10,8 @@ ghost use Rattle.seg_store.specs.inner.Table.{table_heap};
 ghost use Rattle.seg_store.specs.inner.Images.{image_in, Reaches};
 
 use crate::table::Table;
-use py_data::{Change, Entry, NoMemory, Undo};
+use py_data::{Change, Entry, NoMemory, Undo, note};
 use std::alloc::Global;
-
-/// Adds an entry to a journal that has room for it.
-fn note(journal: &mut Vec<(u32, Option<Undo>)>, a: u32, undo: Option<Undo>)
-    requires { vec_len journal.old < vec_capacity journal.old }
-    ensures { journal.new.items ≡ journal.old.items ++ (a, undo) ∷ [] }
-{
-    match journal.push((a, undo)) {
-        Ok(()) => (),
-        Err(_) => unreachable!(),
-    }
-}
 
 /// Records, and a journal of what the open step did to them, the last one last: at each address what takes the change
 /// back, or nothing where the step made the record. A look takes two indexes, a change besides only what it changes,
