@@ -1,13 +1,13 @@
 //! Scripts of several threads, as a user writes them, whose answer is one however the workers come to the heap.
 //! Written by hand.
 use crate::call_rows::{NO_FAILURE, report, told, words_in};
-use crate::program_rows::COUNTER;
 use py_data::NoMemory;
 use std::alloc::Global;
 use std::process::Abort;
 use std::sync::Wait;
 use std::test;
 use std::thread::Threads;
+use text_tests::scripts::COUNTER;
 
 type Tested = Result<(), test::Fail>;
 

@@ -1,5 +1,6 @@
 //! Texts and their programs, or why they have none. A row is a refusal's number and line, `?` and a text; `$` is a
 //! line end.
+use crate::scripts::COUNTER;
 use crate::tables::check_rows;
 use crate::text_rows::text_of;
 use py_data::NoMemory;
@@ -8,42 +9,6 @@ use std::test;
 use stm_top::{TextFault, compile_text};
 
 type Tested = Result<(), test::Fail>;
-
-/// A script with threads, as a user writes it.
-pub const COUNTER: &str = "import threading
-
-class Counter(object):
-    \"\"\"Counts words.\"\"\"
-    def __init__(self, name):
-        self.name = name
-        self.counts = {}
-        self.lock = threading.Lock()
-
-    def add(self, word, n):
-        self.lock.acquire()
-        try:
-            self.counts[word] = self.counts.get(word, 0) + n
-        finally:
-            self.lock.release()
-
-def worker(counter, words, times):
-    for i in xrange(times):
-        for w in words:
-            counter.add(w, 1)
-
-if __name__ == '__main__':
-    c = Counter('words')
-    threads = []
-    for text in ['the cat', 'the dog', 'a cat', 'the end']:
-        t = threading.Thread(target=worker, args=(c, text.split(), 50))
-        t.start()
-        threads.append(t)
-    for t in threads:
-        t.join()
-    print c.name, len(c.counts)
-    for w in sorted(c.counts.keys()):
-        print '%s: %d' % (w, c.counts[w])
-";
 
 /// A text's answer: the count of its program's codes, or a refusal's number and line, or neither.
 #[derive(Clone, Copy, Debug, PartialEq, Eq)]
