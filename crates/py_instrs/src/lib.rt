@@ -43,4 +43,4 @@ pub use programs::{code_name, keys_at, root_name, slot_name, slots_at};
 pub use raises::{exc_match_row, raise_value};
 pub use raising::{pass, push_two, raise_operand};
 pub use setup::setup_row;
-pub use site::{Given, Site, init_number};
+pub use site::{Given, InitNumber, Site, init_number};

@@ -1,6 +1,7 @@
 //! What a call gives, and where it happens.
 ghost use Rattle.std.specs.Prelude.{◌≡◌, ◌++◌, length, codes, OnOk, IfOk, IfSome};
 ghost use Rattle.py_frames.specs.GlobalRows as globals;
+ghost use Rattle.py_instrs.specs.inner.Init.{known};
 
 use crate::programs::text_number;
 use py_code::Program;
@@ -79,20 +80,34 @@ impl<'b, 'a> Passed<'b, 'a> {
     }
 }
 
-/// The number of the string `__init__` among the roots of a program, looked up once for all calls: within it None where
-/// the program doesn't name it. None where the number wouldn't fit, which no list in memory is long enough for.
-pub fn init_number(p: &Program) -> Option<Option<usize>>
-    ensures { IfSome result (λ o. o ≡ globals.text_number p.now (codes "__init__")) }
+/// What is known of the number of the string `__init__` among the roots of a program.
+#[derive(Clone, Copy, Debug, Drop)]
+pub enum InitNumber {
+    /// The program doesn't name it.
+    Missing,
+    /// It is the root of this number.
+    At(usize),
+    /// It wasn't looked up: the number wouldn't fit, which no list in memory is long enough for.
+    Unknown,
+}
+
+/// The number of the string `__init__` among the roots of a program, looked up once for all calls.
+pub fn init_number(p: &Program) -> InitNumber
+    ensures { IfSome (known result) (λ o. o ≡ globals.text_number p.now (codes "__init__")) }
 {
-    text_number(p, b"__init__").ok()
+    match text_number(p, b"__init__") {
+        Ok(Some(n)) => InitNumber::At(n),
+        Ok(None) => InitNumber::Missing,
+        Err(_) => InitNumber::Unknown,
+    }
 }
 
 /// Where a call happens: the program and its roots, the Thread record of the thread, and how many frames it has. Beside
-/// them stands the number of the string `__init__` among the roots, if it was looked up (`init_number`).
+/// them stands what is known of the number of the string `__init__` among the roots (`init_number`).
 #[derive(Drop)]
 pub struct Site<'a> {
     pub program: &'a Program,
-    pub init: &'a Option<Option<usize>>,
+    pub init: &'a InitNumber,
     pub roots: Addr,
     pub thread: Option<Addr>,
     pub depth: usize,
@@ -102,12 +117,14 @@ impl<'a> Model for Site<'a> {
     ghost use Rattle.std.specs.Prelude.{◌≡◌, codes, IfSome};
     ghost use Rattle.py_frames.specs.ClassCalls as class_calls;
     ghost use Rattle.py_frames.specs.GlobalRows as globals;
+    ghost use Rattle.py_instrs.specs.inner.Init.{known};
 
     ghost Value = { class_calls.Site };
 
     ghost view = { λ s. record { program = s.program.now; roots = s.roots.0; thread = s.thread; depth = s.depth } };
 
-    ghost invariant = { λ s. IfSome s.init.now (λ o. o ≡ globals.text_number s.program.now (codes "__init__")) };
+    ghost invariant = { λ s. IfSome (known s.init.now)
+        (λ o. o ≡ globals.text_number s.program.now (codes "__init__")) };
 }
 
 impl<'a> Site<'a> {
@@ -117,8 +134,9 @@ impl<'a> Site<'a> {
         ensures { IfOk result (λ o. o ≡ globals.text_number self.now.program (codes "__init__")) }
     {
         match *self.init {
-            Some(number) => Ok(number),
-            None => text_number(self.program, b"__init__"),
+            InitNumber::Missing => Ok(None),
+            InitNumber::At(n) => Ok(Some(n)),
+            InitNumber::Unknown => text_number(self.program, b"__init__"),
         }
     }
 }

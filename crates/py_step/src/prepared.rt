@@ -3,7 +3,7 @@ ghost use Rattle.std.specs.Prelude.{◌≡◌};
 
 use py_code::Program;
 use py_data::Addr;
-use py_instrs::{Site, init_number};
+use py_instrs::{InitNumber, Site, init_number};
 use py_verify::Verified;
 use std::marker::Model;
 
@@ -12,19 +12,21 @@ use std::marker::Model;
 #[derive(Drop)]
 pub struct Prepared {
     program: Verified,
-    init: Option<Option<usize>>,
+    init: InitNumber,
 }
 
 impl Model for Prepared {
     ghost use Rattle.std.specs.Prelude.{◌≡◌, codes, IfSome};
     ghost use Rattle.py_code.specs.declared.program.Program.{Program};
     ghost use Rattle.py_frames.specs.GlobalRows as globals;
+    ghost use Rattle.py_instrs.specs.inner.Init.{known};
 
     ghost Value = { Program };
 
     ghost view = { λ p. p.program };
 
-    ghost invariant = { λ p. IfSome p.init (λ o. o ≡ globals.text_number p.program (codes "__init__")) };
+    ghost invariant = { λ p. IfSome (known p.init)
+        (λ o. o ≡ globals.text_number p.program (codes "__init__")) };
 }
 
 impl Prepared {

@@ -46,12 +46,23 @@ pub(crate) trait Crew<T: Job, L, P> {
         ensures { (j : T.Description) → errand_of j errand → done_of j result };
 }
 
+/// Whether an errand was worth its while.
+#[derive(Clone, Copy, Debug, Drop)]
+pub enum Worth {
+    /// It was.
+    Paid,
+    /// It wasn't.
+    Wasted,
+    /// None was brought, or what ended it says nothing of the next one.
+    Untold,
+}
+
 /// What a visit found, and what it left to its worker.
 #[derive(Drop)]
 pub(crate) struct Visit<E> {
     pub found: Finding,
-    /// Whether the errand that was brought was worth its while; None where none was brought, or it doesn't tell.
-    pub worth: Option<bool>,
+    /// Whether the errand that was brought was worth its while.
+    pub worth: Worth,
     pub errand: Option<E>,
 }
 
@@ -76,11 +87,11 @@ impl Asking {
         self.left == 0
     }
 
-    /// After a visit to which an errand was brought that was worth so much, if it tells.
-    fn after(self, worth: Option<bool>) -> Asking {
+    /// After a visit to which an errand was brought that was worth so much.
+    fn after(self, worth: Worth) -> Asking {
         match worth {
-            Some(true) => Asking::new(),
-            Some(false) => Asking {
+            Worth::Paid => Asking::new(),
+            Worth::Wasted => Asking {
                 left: self.spell,
                 spell: self
                     .spell
@@ -88,7 +99,7 @@ impl Asking {
                     .saturating_add(1)
                     .min(LONGEST_SPELL),
             },
-            None => Asking {
+            Worth::Untold => Asking {
                 left: self.left.saturating_sub(1),
                 spell: self.spell,
             },

@@ -9,6 +9,7 @@ ghost use Rattle.stm_workers.specs.Ended.{HasEnded};
 ghost use Rattle.stm_workers.specs.Errands.{IsRunnable};
 ghost use Rattle.stm_workers.specs.Growth.{Grows};
 
+use crate::crew::Worth;
 use heap_bound::{call_law, piece_law};
 use lock_run::Client;
 use seg_store::SegStore;
@@ -446,19 +447,19 @@ fn tells<T>(piece: &Option<Piece<T>>) -> bool {
     }
 }
 
-/// Whether pieces are worth their copies, by one that added so many steps; None where it doesn't tell.
-fn worth_of(tells: bool, steps: u64) -> Option<bool> {
+/// Whether pieces are worth their copies, by one that added so many steps.
+fn worth_of(tells: bool, steps: u64) -> Worth {
     if WORTHY_STEPS <= steps {
-        Some(true)
+        Worth::Paid
     } else if tells {
-        Some(false)
+        Worth::Wasted
     } else {
-        None
+        Worth::Untold
     }
 }
 
 /// One visit of the worker of segment `k`, which brings the piece that it has run since the last one, if it has: what
-/// it found, whether the piece was worth its copies, if it tells, and a loan for the next piece.
+/// it found, whether the piece was worth its copies, and a loan for the next piece.
 ///
 /// A piece that fits is installed, and what has as many steps as the length then is committed. The visit goes on as one
 /// without pieces does, but by one step where the piece went far. Then, where the worker asks for a loan, brought no
@@ -469,7 +470,7 @@ pub fn visit_with<C: Client, S: SegStore, I: Source, O: Sink, E: Sink>(
     k: u8,
     piece: Option<Piece<C::State>>,
     asks: bool,
-) -> (Finding, Option<bool>, Option<Loan<C::State>>)
+) -> (Finding, Worth, Option<Loan<C::State>>)
     requires good { IsGoodCore I.state O.state E.state C.prog C.sound S.reserved S.meaning core.old }
     requires segment { k < (core_limits S.meaning core.old).segments }
     requires by { IfSome piece (IsPieceBy (C.prog (core_client core.old))) }
@@ -482,7 +483,7 @@ pub fn visit_with<C: Client, S: SegStore, I: Source, O: Sink, E: Sink>(
     let tells = tells(&piece);
     let (found, steps) = go_round(core, k, piece, asks);
     let worth = worth_of(tells, steps);
-    if found.is_last() || !asks || worth == Some(false) {
+    if found.is_last() || !asks || matches!(worth, Worth::Wasted) {
         return (found, worth, None);
     }
     (found, worth, lend(core, k))
