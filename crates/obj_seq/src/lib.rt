@@ -10,8 +10,6 @@ mod look;
 mod place;
 mod range;
 mod span;
-#[cfg(test)]
-mod tests;
 
 pub use advance::next;
 pub use change::{del_item, insert, pop, reverse, set_item};

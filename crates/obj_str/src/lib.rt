@@ -12,8 +12,6 @@ mod replace;
 mod search;
 mod short;
 mod splitting;
-#[cfg(test)]
-mod tests;
 mod text;
 
 pub use argument::{both, only, wrong_arguments, wrong_operand};
@@ -22,6 +20,7 @@ pub use laws::{
     ends_law, find_law, holds_law, letters_law, replace_law, split_law, strip_law, words_law,
 };
 pub use method::str_method;
+pub use replace::replaced;
 pub use search::find;
 pub use short::Text;
 pub use text::{bytes_of, make_str, too_long};

@@ -6,8 +6,6 @@ mod page;
 mod pages;
 mod sheet;
 mod shelf;
-#[cfg(test)]
-mod tests;
 
 pub use laws::{counting_law, laying_law};
 pub use pages::Pages;

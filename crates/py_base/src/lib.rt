@@ -11,8 +11,6 @@ mod names;
 pub mod operator;
 mod refusal;
 mod slices;
-#[cfg(test)]
-mod tests;
 
 pub use collection::{Bytes, Duplicate, Items, Log, NoMemory};
 pub use kind::Kind;

@@ -11,8 +11,6 @@ mod looks;
 mod order;
 mod record;
 mod stop;
-#[cfg(test)]
-mod tests;
 mod undo;
 mod value;
 mod view;

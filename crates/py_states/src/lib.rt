@@ -6,8 +6,6 @@ mod head;
 mod moves;
 mod pile;
 mod same;
-#[cfg(test)]
-mod tests;
 mod thread;
 mod track;
 

@@ -4,8 +4,6 @@
 mod laws;
 mod marks;
 mod row;
-#[cfg(test)]
-mod tests;
 
 pub use laws::runs_law;
 pub use marks::Marks;

@@ -13,6 +13,3 @@ pub use error::{LoadError, PutError, TakeError};
 pub use fail::Fail;
 pub use memory::{MemLoader, MemSink, MemSource};
 pub use sure::{OpenGate, SureLoader, SureSink, SureSource};
-
-#[cfg(test)]
-mod tests;

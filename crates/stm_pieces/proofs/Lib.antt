@@ -11,4 +11,3 @@ mod Running
 mod Searches
 mod Turns
 mod Walk
-mod ScriptStands

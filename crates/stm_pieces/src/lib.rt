@@ -7,8 +7,6 @@ mod loan;
 mod needs;
 mod noted;
 mod run;
-#[cfg(test)]
-mod tests;
 mod view;
 
 pub use known::knows;

@@ -7,7 +7,6 @@ ghost use Rattle.lock_run.specs.Script.{IsCell, IsList, ScriptSound, script_life
 ghost use Rattle.lock_run.specs.declared.client.Life.TheVariants.{Lives};
 ghost use Rattle.stm_pieces.specs.PieceOf.{piece_state};
 
-use crate::{Loan, Piece, PieceEnd, PieceView, run_piece};
 use lock_run::{Act, Acts, Script, ScriptState};
 use py_data::{
     Addr, Bytes, Entry, Kind, Names, NoMemory, Record, Records, Stop, Value, Values, View,
@@ -15,6 +14,7 @@ use py_data::{
 use std::alloc::Global;
 use std::process::Abort;
 use std::test;
+use stm_pieces::{Loan, Piece, PieceEnd, PieceView, run_piece};
 
 type Tested = Result<(), test::Fail>;
 

@@ -1,5 +1,5 @@
 //! Ranges, as Python 2.7 counts them.
-use crate::{range_item, range_length};
+use obj_seq::{range_item, range_length};
 use std::process::Abort;
 
 /// Start, stop, step, and how many items that range has.

@@ -1,5 +1,5 @@
 //! Rows of markers and locks.
-use crate::Marks;
+use seg_marks::Marks;
 use std::process::Abort;
 use std::test::Fail;
 

@@ -2,8 +2,8 @@ use Rattle.std.proofs.Common.{List, ap, ◌∙◌, rules}
 use Rattle.py_data.specs.declared.value.Addr.{Addr}
 use Rattle.lock_run.specs.declared.script.ScriptState.TheVariants.{Acts}
 use Rattle.stm_pieces.specs.PieceState.{PieceState}
-use Rattle.stm_pieces.proofs.ScriptStands.{cell_stands}
-use Rattle.stm_pieces.proofs.tests.loan_of_cell.Goals as goal
+use Rattle.heap_tests.proofs.ScriptStands.{cell_stands}
+use Rattle.heap_tests.proofs.piece_rows.loan_of_cell.Goals as goal
 
 pub add-requires : goal.add-requires
 add-requires c = record { fresh = ap (λ (z : PieceState). z.heap 1) c.new-loan.ensures.view }

@@ -1,5 +1,5 @@
 //! Rows of pages that two and three segments share.
-use crate::Pages;
+use page_table::Pages;
 use seg_store::StoreFault;
 use std::process::Abort;
 use std::test::Fail;

@@ -1,5 +1,5 @@
 //! Each call of a list once, and refusals and names by hand.
-use crate::{
+use py_base::{
     Bytes, Construct, Items, Log, Refusal, binary_number, binary_sign, builtin_name,
     builtin_number, class_name, class_number, compare_number, compare_sign, unary_number,
     unary_sign,

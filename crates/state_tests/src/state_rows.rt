@@ -1,11 +1,10 @@
 //! Calls, returns and exceptions, step by step.
-
-use crate::ThreadState;
 use lock_run::{Life, Outcome};
 use py_base::NoMemory;
 use py_code::{Codes, Program, Roots};
 use py_data::{Addr, Items, Value, Values};
 use py_frames::{Entered, Frame, Next, Pushed};
+use py_states::ThreadState;
 use std::alloc::Global;
 use std::test::Fail;
 

@@ -1,12 +1,12 @@
 //! What the devices do with ample memory.
 ghost use Rattle.std.specs.Prelude.{◌≤◌};
 
-use crate::{
+use std::alloc::{AllocError, Global};
+use std::test;
+use stm_io::{
     Fail, Gate, LoadError, Loader, MemLoader, MemSink, MemSource, OpenGate, PutError, Sink, Source,
     SureLoader, SureSink, SureSource, TakeError,
 };
-use std::alloc::{AllocError, Global};
-use std::test;
 
 type Tested = Result<(), test::Fail>;
 

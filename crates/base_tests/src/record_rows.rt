@@ -1,5 +1,5 @@
 //! Rooms by hand, and a list of conflicts copied.
-use crate::{
+use py_data::{
     Addr, Bytes, Change, Conflict, Conflicts, Entry, Kind, LENGTH_LIMIT, Record, Side, Value,
     Values,
 };

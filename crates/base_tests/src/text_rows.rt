@@ -1,7 +1,5 @@
 //! Parts of texts, as Python 2.7 has them.
-use crate::blanks::strip;
-use crate::find;
-use crate::replace::replaced;
+use obj_str::{find, replaced, strip};
 use std::test;
 
 type Tested = Result<(), test::Fail>;
