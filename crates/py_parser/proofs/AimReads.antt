@@ -1,6 +1,6 @@
 -- What the grammar has of the level of targets is read where a target stands, or refused as what is left out.
 use Rattle.std.proofs.Common.{◌≡◌, ℕ, zero, suc, ◌+◌, ◌-◌, ◌<◌, ◌≤◌, ◌==◌, nat_lt, nat_le, Bool, true, false, ◌||◌, List, [], ◌∷◌, ◌++◌, length, Ok, Err, Some, None, ◌⊎◌, inl, inr, refl, sym, ap, ◌∙◌, subst, append_assoc, arith, length-append, if◌then◌else◌, le-ltb}
-use Rattle.std.proofs.lemmas.Bool.{and_parts}
+use Rattle.std.proofs.lemmas.Bool.{and_parts, or_from}
 use Rattle.py_tokens.specs.declared.token.Token.{Token}
 use Rattle.py_tokens.specs.declared.token.TokenKind.{TokenKind}
 use Rattle.py_tokens.specs.declared.token.TokenKind.TheVariants as k
@@ -277,13 +277,10 @@ trail_starts {a = a} {ts = ts} p rest s = go (starts 1 (first (ts ++ rest))) ref
     go false e = ok_err _ _ (ok_of (complete p (length ts) (suc (height a)) rest (omega arith) (omega arith) s))
         (refuses 1 (omega arith) (length ts) (height a) (ts ++ rest) e)
 
-or_not : (a b : Bool) → a ≡ false → b ≡ false → (a || b) ≡ false
-or_not a b h i = rw h i
-
 -- where a test stops no rung grows
 quiet_after : (n : ℕ) (κ : TokenKind) → stops (suc n) κ ≡ true → grows n κ ≡ false
 quiet_after zero κ s = refl
-quiet_after (suc n) κ s = or_not (grows n κ) _ (quiet_after n κ (stops_down (suc n) κ s)) (takes_not (suc n) κ s)
+quiet_after (suc n) κ s = or_from (grows n κ) _ (quiet_after n κ (stops_down (suc n) κ s)) (takes_not (suc n) κ s)
 
 joined_parts : (f h : Form) → is_target false (joined f h) ≡ true →
     (is_target false f ≡ true) × (is_target false h ≡ true)

@@ -1,5 +1,6 @@
 -- The same for blocks, compound statements and modules.
 use Rattle.std.proofs.Common.{◌≡◌, ℕ, zero, suc, ◌+◌, ◌-◌, ◌<◌, ◌≤◌, max, ◌==◌, nat_le, Bool, true, false, not, ◌||◌, List, [], ◌∷◌, ◌++◌, length, Ok, Err, Option, Some, None, inl, inr, refl, sym, ap, ◌∙◌, subst, append_assoc, append-nil, if◌then◌else◌, arith, length-append, eq-eqb, le-ltb}
+use Rattle.std.proofs.lemmas.Bool.{or_parts}
 use Rattle.py_tokens.specs.declared.token.Token.{Token}
 use Rattle.py_tokens.specs.declared.token.TokenKind.{TokenKind}
 use Rattle.py_tokens.specs.declared.token.TokenKind.TheVariants as k
@@ -376,14 +377,10 @@ s_suite : (statement : Suite) (g : ℕ) (found : List Stmt) (us : List Token) �
 unfolding suite_at
 s_suite statement g found us = refl
 
-or_both : (a b : Bool) → (a || b) ≡ false → (a ≡ false) × (b ≡ false)
-or_both true b h = no h
-or_both false b h = (refl, h)
-
 clear_not : (kind : TokenKind) → clear kind ≡ true → (is_keyword 8 kind ≡ false) × (is_keyword 9 kind ≡ false) ×
     (is_keyword 10 kind ≡ false) × (is_keyword 12 kind ≡ false)
-clear_not (k.Keyword m) h = let e = not_true _ h in let a = or_both (m == 8) _ e in let b = or_both (m == 9) _ a.1 in
-    let d = or_both (m == 10) _ b.1 in (a.0, b.0, d.0, d.1)
+clear_not (k.Keyword m) h = let e = not_true _ h in let a = or_parts (m == 8) _ e in let b = or_parts (m == 9) _ a.1 in
+    let d = or_parts (m == 10) _ b.1 in (a.0, b.0, d.0, d.1)
 clear_not (k.Name m) h = (refl, refl, refl, refl)
 clear_not (k.Op m) h = (refl, refl, refl, refl)
 clear_not (k.Int m) h = (refl, refl, refl, refl)
