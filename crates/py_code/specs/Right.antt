@@ -2,7 +2,7 @@
 -- States `docs/LANGUAGE.md`, "Right programs".
 use Rattle.std.specs.Prelude.{◌≡◌, ℕ, zero, suc, ◌+◌, ◌<◌, ◌≤◌, ◌^◌, ◌==◌, codes, List, [], ◌∷◌, ◌++◌, Option, Some, None, Bool, true, false, IsTrue, All, if◌then◌else◌, drop, length, map, slice_get}
 use Rattle.std.specs.List.{flat_map, last_or, list_any}
-use Rattle.std.specs.Str.{bytes_eq}
+use Rattle.py_base.specs.NameLists.{has}
 use Rattle.py_base.specs.declared.kind.Kind.{Kind}
 use Rattle.py_base.specs.declared.kind.Kind.TheVariants.{Str, Cell, Class}
 use Rattle.py_base.specs.Numbers.{class_count}

@@ -24,7 +24,7 @@ use Rattle.py_parser.specs.inner.Reading.{Test, ◌>>=◌, Below, first, rest, i
 use Rattle.py_parser.specs.inner.Aiming.{after_rung, grown_at, grows, risen_at, element_at, fine, next_at, elements_at, closing_at, closed_at}
 use Rattle.py_parser.proofs.Steps.{of}
 use Rattle.py_parser.proofs.Facts.{no}
-use Rattle.py_parser.proofs.Complete.{tests_nil}
+use Rattle.py_parser.proofs.ReadSteps.{tests_nil}
 use Rattle.py_parser.proofs.Values.{plus_tests, push_tests}
 use Rattle.py_parser.proofs.Told.{Mode, any, low, Opens, alone, near, with_none, more, more_is, Told, told_done, told_ends, told_refused, there, told_as, told_same, told_if, told_post, told_take, told_word, told_bind, told_map, on, here, move}
 use Rattle.py_parser.proofs.Tells.{only_op, Hole, Read, p0, free, length_after, then_tests, Commaed, trailing, further, Following, no_more, commaed}

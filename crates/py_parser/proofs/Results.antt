@@ -21,8 +21,8 @@ use Rattle.py_parser.specs.inner.Lines.{statements_at, body_more, module_at}
 use Rattle.py_parser.specs.Refused.{Begins, BeginsWith, Because, RefusedAt, EndsOnce}
 use Rattle.py_parser.proofs.Steps.{Reaches}
 use Rattle.py_parser.proofs.Facts.{no}
-use Rattle.py_parser.proofs.Simple.{slack}
-use Rattle.py_parser.proofs.Blocks.{highest_talls}
+use Rattle.py_parser.proofs.TargetReads.{slack}
+use Rattle.py_parser.proofs.BlockSteps.{highest_talls}
 use Rattle.py_parser.proofs.Whole.{complete_body, only}
 use Rattle.py_parser.specs.Parses.{Parses}
 use Rattle.py_parser.specs.inner.Outcome.{Fails}
