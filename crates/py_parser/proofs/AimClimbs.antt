@@ -222,8 +222,8 @@ pub not_plain : {A : Type 0} (f : Form) → is_target false f ≡ true → f ≡
 not_plain f t e = no (sym t ∙ ap (is_target false) e)
 
 -- a test that is a target is of the level of targets
-pub to_trail : {x : Marks} {n : ℕ} {a : Expr} {ts : List Token} → Is x n a ts → 0 < n → is_target false (form a) ≡ true →
-    Is x 1 a ts
+pub to_trail : {x : Marks} {n : ℕ} {a : Expr} {ts : List Token} → Is x n a ts → 0 < n →
+    is_target false (form a) ≡ true → Is x 1 a ts
 to_trail (G.up zero l p) i t = G.up zero l p
 to_trail (G.up (suc n) l p) i t = to_trail p (omega arith) t
 to_trail (G.trail p q) i t = G.trail p q

@@ -212,7 +212,8 @@ parts2 g d = record {
       block_at (line_of_at g d) (statements_at g d) g;
 }
 
-pub st_two : (g d : ℕ) (us : List Token) → statements_at g (suc (suc d)) us ≡ statement_at (parts2 g d) g (suc (suc d)) us
+pub st_two : (g d : ℕ) (us : List Token) →
+    statements_at g (suc (suc d)) us ≡ statement_at (parts2 g d) g (suc (suc d)) us
 unfolding statements_at
 st_two g d us = refl
 

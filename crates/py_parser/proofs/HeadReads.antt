@@ -98,8 +98,8 @@ param_first : {x : Marks} {t : Bool} {a : Param} {ts : List Token} → Parameter
 param_first (S.plain x n p) us = refl
 param_first (S.default n p q r) us = refl
 
-pub params_first : {x : Marks} {b : Bool} {ps : List Param} {ts : List Token} → Parameters x b ps ts → (us : List Token) →
-    is_op 33 (first (ts ++ us)) ≡ false
+pub params_first : {x : Marks} {b : Bool} {ps : List Param} {ts : List Token} → Parameters x b ps ts →
+    (us : List Token) → is_op 33 (first (ts ++ us)) ≡ false
 params_first (S.one b d h r) us = param_first r us
 params_first (S.one_comma b d p {ts = ts} h r) us =
     subst (λ z. is_op 33 (first z) ≡ false) (sym (append_assoc ts (at c.comma p ∷ []) us)) (param_first r _)
@@ -206,7 +206,8 @@ caught_ok (S.comma p {x = x} {a = a} {b = b} {ts = ts} {us = us} r t) g d q rest
     (then_reads x _ (λ b. Ok ((Some a, Some b.0.tree), b.1)) (of b) (at c.colon q ∷ rest) _ _
     (complete_target t ends_caught g d _ (omega arith) (omega arith) refl refl) (inl refl))))
 
-pub base_ok : {x : Marks} {a : Option Expr} {ts : List Token} → Base x a ts → (g d : ℕ) (q : Place) (rest : List Token) →
+pub base_ok : {x : Marks} {a : Option Expr} {ts : List Token} → Base x a ts →
+    (g d : ℕ) (q : Place) (rest : List Token) →
     length ts ≤ g → top_or a ≤ d → Reaches x (base_at (readers g d) (ts ++ at c.colon q ∷ rest)) (of_or a)
     (at c.colon q ∷ rest)
 unfolding base_at maybe_at op_at

@@ -46,20 +46,20 @@ module _ (one : ℤ) where
       -- `print`, with budget 1
       (told (statements_at 40 1 (tk (k.Keyword 24) ∷ tk (k.Newline) ∷ tk (k.End) ∷ [])) ≡ Ok 1) ×
       -- `print FLOAT`, with budget 1
-      (told (statements_at 40 1 (tk (k.Keyword 24) ∷ tk (k.Other other.Float) ∷ tk (k.Newline) ∷ tk (k.End) ∷
-      [])) ≡ Err (LeftOut left.Float, 3)) ×
+      (told (statements_at 40 1 (tk (k.Keyword 24) ∷ tk (k.Other other.Float) ∷ tk (k.Newline) ∷ tk (k.End) ∷ []))
+      ≡ Err (LeftOut left.Float, 3)) ×
       -- `print ( )`, with budget 2
-      (told (statements_at 40 2 (tk (k.Keyword 24) ∷ tk (k.Op 32) ∷ tk (k.Op 33) ∷ tk (k.Newline) ∷ tk (k.End) ∷
-      [])) ≡ Ok 1) ×
+      (told (statements_at 40 2 (tk (k.Keyword 24) ∷ tk (k.Op 32) ∷ tk (k.Op 33) ∷ tk (k.Newline) ∷ tk (k.End) ∷ []))
+      ≡ Ok 1) ×
       -- `f ( )`, with budget 2
-      (told (statements_at 40 2 (tk (k.Name (102 ∷ [])) ∷ tk (k.Op 32) ∷ tk (k.Op 33) ∷ tk (k.Newline) ∷ tk (k.End) ∷
-      [])) ≡ Err (Deep, 4)) ×
+      (told (statements_at 40 2 (tk (k.Name (102 ∷ [])) ∷ tk (k.Op 32) ∷ tk (k.Op 33) ∷ tk (k.Newline) ∷
+      tk (k.End) ∷ [])) ≡ Err (Deep, 4)) ×
       -- `x , y`, with budget 2
       (told (statements_at 40 2 (tk (k.Name (120 ∷ [])) ∷ tk (k.Op 38) ∷ tk (k.Name (121 ∷ [])) ∷ tk (k.Newline) ∷
       tk (k.End) ∷ [])) ≡ Err (Deep, 4)) ×
       -- `- x`, with budget 2
-      (told (statements_at 40 2 (tk (k.Op 22) ∷ tk (k.Name (120 ∷ [])) ∷ tk (k.Newline) ∷ tk (k.End) ∷
-      [])) ≡ Err (Deep, 4)) ×
+      (told (statements_at 40 2 (tk (k.Op 22) ∷ tk (k.Name (120 ∷ [])) ∷ tk (k.Newline) ∷ tk (k.End) ∷ []))
+      ≡ Err (Deep, 4)) ×
       -- `print not x`, with budget 2
       (told (statements_at 40 2 (tk (k.Keyword 24) ∷ tk (k.Keyword 21) ∷ tk (k.Name (120 ∷ [])) ∷ tk (k.Newline) ∷
       tk (k.End) ∷ [])) ≡ Err (Deep, 4))
@@ -76,8 +76,8 @@ module _ (one : ℤ) where
   aimed_heights :
       -- `for x , y in z : pass`, with budget 3
       (told (statements_at 40 3 (tk (k.Keyword 13) ∷ tk (k.Name (120 ∷ [])) ∷ tk (k.Op 38) ∷ tk (k.Name (121 ∷ [])) ∷
-      tk (k.Keyword 18) ∷ tk (k.Name (122 ∷ [])) ∷ tk (k.Op 39) ∷ tk (k.Keyword 23) ∷ tk (k.Newline) ∷ tk (k.End) ∷
-      [])) ≡ Ok 1) ×
+      tk (k.Keyword 18) ∷ tk (k.Name (122 ∷ [])) ∷ tk (k.Op 39) ∷ tk (k.Keyword 23) ∷ tk (k.Newline) ∷
+      tk (k.End) ∷ [])) ≡ Ok 1) ×
       -- `for x [ 1 ] , y in z : pass`, with budget 3
       (told (statements_at 40 3 (tk (k.Keyword 13) ∷ tk (k.Name (120 ∷ [])) ∷ tk (k.Op 34) ∷ tk (k.Int one) ∷
       tk (k.Op 35) ∷ tk (k.Op 38) ∷ tk (k.Name (121 ∷ [])) ∷ tk (k.Keyword 18) ∷ tk (k.Name (122 ∷ [])) ∷

@@ -149,8 +149,8 @@ s_return : (under : Readers) (g d : ℕ) (p : Place) (us : List Token) → comes
 unfolding simple_at maybe_at
 s_return under g d p us h = rw h refl
 
-pub complete_return : {x : Marks} {a : Expr} {ts : List Token} (p : Place) → Exprs x a ts → (g d : ℕ) (rest : List Token) →
-    length ts ≤ g → height a + 1 ≤ d → Ends (first rest) →
+pub complete_return : {x : Marks} {a : Expr} {ts : List Token} (p : Place) → Exprs x a ts →
+    (g d : ℕ) (rest : List Token) → length ts ≤ g → height a + 1 ≤ d → Ends (first rest) →
     Reaches x (simple_at (readers g (d - 1)) g d (at c.return_ p ∷ ts ++ rest)) (st.Return p.line (Some a)) rest
 complete_return {x = x} {a = a} {ts = ts} p q g d rest l h s =
     at_same x _ _ _ rest (s_return (readers g (d - 1)) g d p (ts ++ rest)

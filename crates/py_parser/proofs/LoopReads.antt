@@ -88,8 +88,8 @@ s_loop_comma : (under : Readers) (d g : ℕ) (a : Tall Expr) (p : Place) (us : L
     Ok (of_tuple es.0, es.1))
 s_loop_comma under d g a p us h = rw (le_leb (a.tall + 1) d h) refl
 
-pub complete_loop : {x : Marks} {a : Expr} {ts : List Token} → Loops x a ts → (g d : ℕ) (q : Place) (rest : List Token) →
-    length ts ≤ g → slack x + height a ≤ suc d →
+pub complete_loop : {x : Marks} {a : Expr} {ts : List Token} → Loops x a ts →
+    (g d : ℕ) (q : Place) (rest : List Token) → length ts ≤ g → slack x + height a ≤ suc d →
     Reaches x (loop_at (readers g (suc d)) (readers g d) (suc d) g (ts ++ at c.in_ q ∷ rest)) (of a) (at c.in_ q ∷ rest)
 complete_loop (S.single {x = x} {a = a} {ts = ts} t) g d q rest l h =
     at_same x _ _ _ _ (s_loop (readers g (suc d)) (readers g d) (suc d) g (ts ++ at c.in_ q ∷ rest))

@@ -159,8 +159,8 @@ pub s_print_to : (under : Readers) (g l : ℕ) (q : Place) (us : List Token) →
 unfolding print_at
 s_print_to under g l q us = refl
 
-pub s_augment_yield : (under : Readers) (g l : ℕ) (a : Tall Expr) (o : Operator) (t : Token) (q : Place) (us : List Token)
-    → is_single false a.form ≡ true → run_at under g l (a, t ∷ at c.yield_ q ∷ us) (Some o) ≡ Err
+pub s_augment_yield : (under : Readers) (g l : ℕ) (a : Tall Expr) (o : Operator) (t : Token) (q : Place)
+    (us : List Token) → is_single false a.form ≡ true → run_at under g l (a, t ∷ at c.yield_ q ∷ us) (Some o) ≡ Err
     (LeftOut left.Generator, at c.yield_ q ∷ us)
 unfolding run_at
 s_augment_yield under g l a o t q us h = rw h refl

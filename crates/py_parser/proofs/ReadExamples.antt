@@ -19,8 +19,8 @@ module _ (one : ℤ) where
       (told (module_at 40 (tk (k.Keyword 24) ∷ tk (k.Int one) ∷ tk (k.Op 24) ∷ tk (k.Int one) ∷ tk (k.Op 38) ∷
       tk (k.Op 22) ∷ tk (k.Int one) ∷ tk (k.Op 24) ∷ tk (k.Int one) ∷ tk (k.Newline) ∷ tk (k.End) ∷ [])) ≡ Ok 0) ×
       -- `x = 1`
-      (told (module_at 40 (tk (k.Name (120 ∷ [])) ∷ tk (k.Op 42) ∷ tk (k.Int one) ∷ tk (k.Newline) ∷ tk (k.End) ∷
-      [])) ≡ Ok 0) ×
+      (told (module_at 40 (tk (k.Name (120 ∷ [])) ∷ tk (k.Op 42) ∷ tk (k.Int one) ∷ tk (k.Newline) ∷ tk (k.End) ∷ []))
+      ≡ Ok 0) ×
       -- `x = y = 1 , 2`
       (told (module_at 40 (tk (k.Name (120 ∷ [])) ∷ tk (k.Op 42) ∷ tk (k.Name (121 ∷ [])) ∷ tk (k.Op 42) ∷
       tk (k.Int one) ∷ tk (k.Op 38) ∷ tk (k.Int one) ∷ tk (k.Newline) ∷ tk (k.End) ∷ [])) ≡ Ok 0) ×
@@ -28,8 +28,8 @@ module _ (one : ℤ) where
       (told (module_at 40 (tk (k.Name (120 ∷ [])) ∷ tk (k.Op 40) ∷ tk (k.Name (121 ∷ [])) ∷ tk (k.Op 34) ∷
       tk (k.Int one) ∷ tk (k.Op 35) ∷ tk (k.Op 13) ∷ tk (k.Int one) ∷ tk (k.Newline) ∷ tk (k.End) ∷ [])) ≡ Ok 0) ×
       -- `print x ,`
-      (told (module_at 40 (tk (k.Keyword 24) ∷ tk (k.Name (120 ∷ [])) ∷ tk (k.Op 38) ∷ tk (k.Newline) ∷ tk (k.End) ∷
-      [])) ≡ Ok 0) ×
+      (told (module_at 40 (tk (k.Keyword 24) ∷ tk (k.Name (120 ∷ [])) ∷ tk (k.Op 38) ∷ tk (k.Newline) ∷
+      tk (k.End) ∷ [])) ≡ Ok 0) ×
       -- `f ( x , y = 1 , )`
       (told (module_at 40 (tk (k.Name (102 ∷ [])) ∷ tk (k.Op 32) ∷ tk (k.Name (120 ∷ [])) ∷ tk (k.Op 38) ∷
       tk (k.Name (121 ∷ [])) ∷ tk (k.Op 42) ∷ tk (k.Int one) ∷ tk (k.Op 38) ∷ tk (k.Op 33) ∷ tk (k.Newline) ∷
@@ -59,12 +59,12 @@ module _ (one : ℤ) where
   reads_more_simple :
       -- `x if y else z if w else v`
       (told (module_at 40 (tk (k.Name (120 ∷ [])) ∷ tk (k.Keyword 16) ∷ tk (k.Name (121 ∷ [])) ∷ tk (k.Keyword 9) ∷
-      tk (k.Name (122 ∷ [])) ∷ tk (k.Keyword 16) ∷ tk (k.Name (119 ∷ [])) ∷ tk (k.Keyword 9) ∷ tk (k.Name (118 ∷
-      [])) ∷ tk (k.Newline) ∷ tk (k.End) ∷ [])) ≡ Ok 0) ×
+      tk (k.Name (122 ∷ [])) ∷ tk (k.Keyword 16) ∷ tk (k.Name (119 ∷ [])) ∷ tk (k.Keyword 9) ∷
+      tk (k.Name (118 ∷ [])) ∷ tk (k.Newline) ∷ tk (k.End) ∷ [])) ≡ Ok 0) ×
       -- `not x is not y in z`
       (told (module_at 40 (tk (k.Keyword 21) ∷ tk (k.Name (120 ∷ [])) ∷ tk (k.Keyword 19) ∷ tk (k.Keyword 21) ∷
-      tk (k.Name (121 ∷ [])) ∷ tk (k.Keyword 18) ∷ tk (k.Name (122 ∷ [])) ∷ tk (k.Newline) ∷ tk (k.End) ∷
-      [])) ≡ Ok 0) ×
+      tk (k.Name (121 ∷ [])) ∷ tk (k.Keyword 18) ∷ tk (k.Name (122 ∷ [])) ∷ tk (k.Newline) ∷ tk (k.End) ∷ []))
+      ≡ Ok 0) ×
       -- `assert x , y ; raise`
       (told (module_at 40 (tk (k.Keyword 2) ∷ tk (k.Name (120 ∷ [])) ∷ tk (k.Op 38) ∷ tk (k.Name (121 ∷ [])) ∷
       tk (k.Op 41) ∷ tk (k.Keyword 25) ∷ tk (k.Newline) ∷ tk (k.End) ∷ [])) ≡ Ok 0) ×
@@ -81,8 +81,8 @@ module _ (one : ℤ) where
       tk (k.Op 33) ∷ tk (k.Op 42) ∷ tk (k.Name (122 ∷ [])) ∷ tk (k.Newline) ∷ tk (k.End) ∷ [])) ≡ Ok 0) ×
       -- `import thread , threading as t`
       (told (module_at 40 (tk (k.Keyword 17) ∷ tk (k.Name (116 ∷ 104 ∷ 114 ∷ 101 ∷ 97 ∷ 100 ∷ [])) ∷ tk (k.Op 38) ∷
-      tk (k.Name (116 ∷ 104 ∷ 114 ∷ 101 ∷ 97 ∷ 100 ∷ 105 ∷ 110 ∷ 103 ∷ [])) ∷ tk (k.Keyword 1) ∷ tk (k.Name (116 ∷
-      [])) ∷ tk (k.Newline) ∷ tk (k.End) ∷ [])) ≡ Ok 0)
+      tk (k.Name (116 ∷ 104 ∷ 114 ∷ 101 ∷ 97 ∷ 100 ∷ 105 ∷ 110 ∷ 103 ∷ [])) ∷ tk (k.Keyword 1) ∷
+      tk (k.Name (116 ∷ [])) ∷ tk (k.Newline) ∷ tk (k.End) ∷ [])) ≡ Ok 0)
   unfolding op_at keyword_at name_at strings_at tests_at round_at list_at pairs_at dict_at atom_at named_at args_at
       slice_at subscript_at call_at trailer_at trailers_at trail_at power_at links_at chain_at choice_at after_at
       level_at reads plain_at maybe_at checked targets_at loops_at loop_at equals_at run_at names_at
@@ -112,8 +112,8 @@ module _ (one : ℤ) where
       -- `def f ( ) : NL IN global x ; NL x = 1 NL DE`
       (told (module_at 40 (tk (k.Keyword 6) ∷ tk (k.Name (102 ∷ [])) ∷ tk (k.Op 32) ∷ tk (k.Op 33) ∷ tk (k.Op 39) ∷
       tk (k.Newline) ∷ tk (k.Indent) ∷ tk (k.Keyword 15) ∷ tk (k.Name (120 ∷ [])) ∷ tk (k.Op 41) ∷ tk (k.Newline) ∷
-      tk (k.Name (120 ∷ [])) ∷ tk (k.Op 42) ∷ tk (k.Int one) ∷ tk (k.Newline) ∷ tk (k.Dedent) ∷ tk (k.End) ∷
-      [])) ≡ Ok 0)
+      tk (k.Name (120 ∷ [])) ∷ tk (k.Op 42) ∷ tk (k.Int one) ∷ tk (k.Newline) ∷ tk (k.Dedent) ∷ tk (k.End) ∷ []))
+      ≡ Ok 0)
   unfolding op_at keyword_at name_at strings_at tests_at round_at list_at pairs_at dict_at atom_at named_at args_at
       slice_at subscript_at call_at trailer_at trailers_at trail_at power_at links_at chain_at choice_at after_at
       level_at reads plain_at maybe_at checked targets_at loops_at loop_at equals_at run_at names_at
@@ -129,8 +129,9 @@ module _ (one : ℤ) where
       (told (module_at 40 (tk (k.Keyword 13) ∷ tk (k.Name (120 ∷ [])) ∷ tk (k.Op 38) ∷ tk (k.Keyword 18) ∷
       tk (k.Name (121 ∷ [])) ∷ tk (k.Op 39) ∷ tk (k.Keyword 23) ∷ tk (k.Newline) ∷ tk (k.End) ∷ [])) ≡ Ok 0) ×
       -- `del x , ( y ) , [ ]`
-      (told (module_at 40 (tk (k.Keyword 7) ∷ tk (k.Name (120 ∷ [])) ∷ tk (k.Op 38) ∷ tk (k.Op 32) ∷ tk (k.Name (121 ∷
-      [])) ∷ tk (k.Op 33) ∷ tk (k.Op 38) ∷ tk (k.Op 34) ∷ tk (k.Op 35) ∷ tk (k.Newline) ∷ tk (k.End) ∷ [])) ≡ Ok 0) ×
+      (told (module_at 40 (tk (k.Keyword 7) ∷ tk (k.Name (120 ∷ [])) ∷ tk (k.Op 38) ∷ tk (k.Op 32) ∷
+      tk (k.Name (121 ∷ [])) ∷ tk (k.Op 33) ∷ tk (k.Op 38) ∷ tk (k.Op 34) ∷ tk (k.Op 35) ∷ tk (k.Newline) ∷
+      tk (k.End) ∷ [])) ≡ Ok 0) ×
       -- `try : pass NL except E , e : pass NL except : pass NL else : pass NL finally : pass`
       (told (module_at 40 (tk (k.Keyword 27) ∷ tk (k.Op 39) ∷ tk (k.Keyword 23) ∷ tk (k.Newline) ∷ tk (k.Keyword 10) ∷
       tk (k.Name (69 ∷ [])) ∷ tk (k.Op 38) ∷ tk (k.Name (101 ∷ [])) ∷ tk (k.Op 39) ∷ tk (k.Keyword 23) ∷
@@ -149,56 +150,48 @@ module _ (one : ℤ) where
   -- with their trees
   reads_trees :
       -- `print 7 / 2 , - 7 / 2`
-      (module_at 40 (tk (k.Keyword 24) ∷ tk (k.Int one) ∷ tk (k.Op 24) ∷ tk (k.Int one) ∷ tk (k.Op 38) ∷
-      tk (k.Op 22) ∷ tk (k.Int one) ∷ tk (k.Op 24) ∷ tk (k.Int one) ∷ tk (k.Newline) ∷ tk (k.End) ∷
-      []) ≡ Ok (
+      (module_at 40 (tk (k.Keyword 24) ∷ tk (k.Int one) ∷ tk (k.Op 24) ∷ tk (k.Int one) ∷ tk (k.Op 38) ∷ tk (k.Op 22) ∷
+      tk (k.Int one) ∷ tk (k.Op 24) ∷ tk (k.Int one) ∷ tk (k.Newline) ∷ tk (k.End) ∷ []) ≡ Ok (
         record {
-          body = s.Print 1 (e.Chain level.Term (e.Int one) (record { operator = op.Divide; operand = e.Int one } ∷
-              []) ∷
-              e.Chain level.Term (e.Unary sign.Minus (e.Int one)) (record { operator = op.Divide; operand = e.Int one } ∷
-              []) ∷ []) false ∷ [];
+          body = s.Print 1 (e.Chain level.Term (e.Int one)
+              (record { operator = op.Divide; operand = e.Int one } ∷ []) ∷ e.Chain level.Term
+              (e.Unary sign.Minus (e.Int one))
+              (record { operator = op.Divide; operand = e.Int one } ∷ []) ∷ []) false ∷ [];
         },
         [],
       )) ×
       -- `x = 1`
-      (module_at 40 (tk (k.Name (120 ∷ [])) ∷ tk (k.Op 42) ∷ tk (k.Int one) ∷ tk (k.Newline) ∷ tk (k.End) ∷
-      []) ≡ Ok (record { body = s.Assign 1 (e.Name (120 ∷ []) ∷ []) (e.Int one) ∷ [] }, [])) ×
+      (module_at 40 (tk (k.Name (120 ∷ [])) ∷ tk (k.Op 42) ∷ tk (k.Int one) ∷ tk (k.Newline) ∷ tk (k.End) ∷ []) ≡ Ok
+      (record { body = s.Assign 1 (e.Name (120 ∷ []) ∷ []) (e.Int one) ∷ [] }, [])) ×
       -- `2 ** - 3 ** 4`
-      (module_at 40 (tk (k.Int one) ∷ tk (k.Op 4) ∷ tk (k.Op 22) ∷ tk (k.Int one) ∷ tk (k.Op 4) ∷ tk (k.Int one) ∷
-      tk (k.Newline) ∷ tk (k.End) ∷
-      []) ≡ Ok (
-        record {
-          body = s.Do 1 (e.Power (e.Int one) (e.Unary sign.Minus (e.Power (e.Int one) (e.Int one)))) ∷
-              [];
-        },
+      (module_at 40 (tk (k.Int one) ∷ tk (k.Op 4) ∷ tk (k.Op 22) ∷ tk (k.Int one) ∷ tk (k.Op 4) ∷ tk (k.Int one) ∷ tk
+      (k.Newline) ∷ tk (k.End) ∷ []) ≡ Ok (
+        record { body = s.Do 1 (e.Power (e.Int one) (e.Unary sign.Minus (e.Power (e.Int one) (e.Int one)))) ∷ [] },
         [],
       )) ×
       -- `x . y ( 1 , z = 2 ) [ 1 : ]`
       (module_at 40 (tk (k.Name (120 ∷ [])) ∷ tk (k.Op 40) ∷ tk (k.Name (121 ∷ [])) ∷ tk (k.Op 32) ∷ tk (k.Int one) ∷
-      tk (k.Op 38) ∷ tk (k.Name (122 ∷ [])) ∷ tk (k.Op 42) ∷ tk (k.Int one) ∷ tk (k.Op 33) ∷ tk (k.Op 34) ∷
-      tk (k.Int one) ∷ tk (k.Op 39) ∷ tk (k.Op 35) ∷ tk (k.Newline) ∷ tk (k.End) ∷
-      []) ≡ Ok (
+      tk (k.Op 38) ∷ tk (k.Name (122 ∷ [])) ∷ tk (k.Op 42) ∷ tk (k.Int one) ∷ tk (k.Op 33) ∷ tk (k.Op 34) ∷ tk
+      (k.Int one) ∷ tk (k.Op 39) ∷ tk (k.Op 35) ∷ tk (k.Newline) ∷ tk (k.End) ∷ []) ≡ Ok (
         record {
-          body = s.Do 1 (e.Trail (e.Name (120 ∷ [])) (t.Attribute (121 ∷ []) ∷ t.Call (e.Int one ∷
-              []) (record { name = 122 ∷ []; value = e.Int one } ∷ []) ∷ t.Slice (Some (e.Int one)) None ∷ [])) ∷
-              [];
+          body = s.Do 1 (e.Trail (e.Name (120 ∷ []))
+              (t.Attribute (121 ∷ []) ∷ t.Call (e.Int one ∷ []) (record { name = 122 ∷ []; value = e.Int one } ∷ []) ∷
+              t.Slice
+              (Some (e.Int one)) None ∷ [])) ∷ [];
         },
         [],
       )) ×
       -- `STR STR`
-      (module_at 40 (tk (k.Str (97 ∷ [])) ∷ tk (k.Str (97 ∷ [])) ∷ tk (k.Newline) ∷ tk (k.End) ∷
-      []) ≡ Ok (record { body = s.Do 1 (e.Str (97 ∷ 97 ∷ [])) ∷ [] }, [])) ×
+      (module_at 40 (tk (k.Str (97 ∷ [])) ∷ tk (k.Str (97 ∷ [])) ∷ tk (k.Newline) ∷ tk (k.End) ∷ []) ≡ Ok
+      (record { body = s.Do 1 (e.Str (97 ∷ 97 ∷ [])) ∷ [] }, [])) ×
       -- `if x : pass NL else : pass ; break`
       (module_at 40 (tk (k.Keyword 16) ∷ tk (k.Name (120 ∷ [])) ∷ tk (k.Op 39) ∷ tk (k.Keyword 23) ∷ tk (k.Newline) ∷
-      tk (k.Keyword 9) ∷ tk (k.Op 39) ∷ tk (k.Keyword 23) ∷ tk (k.Op 41) ∷ tk (k.Keyword 3) ∷ tk (k.Newline) ∷
-      tk (k.End) ∷ []) ≡ Ok (
+      tk (k.Keyword 9) ∷ tk (k.Op 39) ∷ tk (k.Keyword 23) ∷ tk (k.Op 41) ∷ tk (k.Keyword 3) ∷ tk (k.Newline) ∷ tk
+      (k.End) ∷ []) ≡ Ok (
         record {
-          body = s.If (record {
-            line = 1;
-            test = e.Name (120 ∷ []);
-            body = s.Pass 1 ∷
-                [];
-          } ∷ []) (Some (record { line = 1; body = s.Pass 1 ∷ s.Break 1 ∷ [] })) ∷ [];
+          body =
+              s.If (record { line = 1; test = e.Name (120 ∷ []); body = s.Pass 1 ∷ [] } ∷ [])
+              (Some (record { line = 1; body = s.Pass 1 ∷ s.Break 1 ∷ [] })) ∷ [];
         },
         [],
       ))

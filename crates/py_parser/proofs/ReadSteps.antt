@@ -63,7 +63,8 @@ s_links_end l next zero found us h = refl
 s_links_end l next (suc f) found us h = ap (λ o. linked next (links_at l next f) o found us)
     (none_of (operator_of l (first us)) h)
 
-pub s_links : (l : Level) (next : Test) (f : ℕ) (o : Operator) (p q : Place) (found : Tall (List Link)) (us : List Token) →
+pub s_links : (l : Level) (next : Test) (f : ℕ) (o : Operator) (p q : Place) (found : Tall (List Link))
+    (us : List Token) →
     level_of o ≡ Some l → comes (below l) (first us) ≡ true → links_at l next (suc f) found (spelled o p q ++ us) ≡
     (next us >>= λ a. links_at l next f (push_link found o a.0) a.1)
 unfolding links_at
@@ -111,8 +112,8 @@ pair_value next f found a colon = next colon.1 >>= λ b. pairs_at next f (push_p
 abbrev pub pair_more : Test → ℕ → Tall (List Pair) → Tall Expr × List Token → Reads (Tall (List Pair))
 pair_more next f found a = op_at 39 a.1 >>= pair_value next f found a.0
 
-pub s_pairs : (next : Test) (f : ℕ) (found : Tall (List Pair)) (p : Place) (us : List Token) → comes 14 (first us) ≡ true →
-    pairs_at next (suc f) found (at c.comma p ∷ us) ≡ (next us >>= pair_more next f found)
+pub s_pairs : (next : Test) (f : ℕ) (found : Tall (List Pair)) (p : Place) (us : List Token) →
+    comes 14 (first us) ≡ true → pairs_at next (suc f) found (at c.comma p ∷ us) ≡ (next us >>= pair_more next f found)
 unfolding pairs_at
 s_pairs next f found p us h = rw h refl
 
@@ -182,8 +183,8 @@ pub s_first : (under : Below) (us : List Token) → is_op 39 (first us) ≡ fals
 unfolding subscript_at
 s_first under us h = rw h refl
 
-pub s_colon : (under : Below) (q : Place) (us : List Token) → subscript_at under (at c.colon q ∷ us) ≡ slice_at under None
-    us
+pub s_colon : (under : Below) (q : Place) (us : List Token) →
+    subscript_at under (at c.colon q ∷ us) ≡ slice_at under None us
 unfolding subscript_at
 s_colon under q us = refl
 
@@ -223,8 +224,8 @@ pub index_first : {x : Marks} {a : Expr} {ts : List Token} → Exprs x a ts → 
 index_first (G.single p) us = begin_op 39 refl (headed p) us
 index_first (G.tuple r) us = begin_op 39 refl (commas_headed r) us
 
-pub args_first : {x : Marks} {es : List Expr} {ns : List Named} {ts : List Token} → Args x es ns ts → (us : List Token) →
-    is_op 33 (first (ts ++ us)) ≡ false
+pub args_first : {x : Marks} {es : List Expr} {ns : List Named} {ts : List Token} → Args x es ns ts →
+    (us : List Token) → is_op 33 (first (ts ++ us)) ≡ false
 args_first (G.arg p) us = begin_op 33 refl (headed p) us
 args_first (G.arg_comma p q) us = begin_op 33 refl (more_headed (at c.comma p ∷ []) (headed q)) us
 args_first (G.more_args p {us = us'} q r) us = begin_op 33 refl (more_headed (at c.comma p ∷ us') (headed q)) us
@@ -269,8 +270,8 @@ tests_one r a = sym (tests_nil (push r (of a))) ∙ push_tests r a []
 abbrev pub arg_next : Test → ℕ → Tall (List Expr) → List Token → Tall Expr × List Token → Reads (Tall Trailer)
 arg_next next f found us a = arg_by next f (args_at next f) found a (keyed a.0.form (first us) (first a.1))
 
-pub arg_end : (next : Test) (f : ℕ) (found : Tall (List Expr)) (us : List Token) (a : Expr) (q : Place) (rest : List Token)
-    → arg_next next f found us (of a, at c.close_round q ∷ rest) ≡ Ok (
+pub arg_end : (next : Test) (f : ℕ) (found : Tall (List Expr)) (us : List Token) (a : Expr) (q : Place)
+    (rest : List Token) → arg_next next f found us (of a, at c.close_round q ∷ rest) ≡ Ok (
       of_call (push found (of a)) (plain [] 0),
       at c.close_round q ∷ rest,
     )
@@ -283,7 +284,8 @@ pub arg_comma : (next : Test) (f : ℕ) (found : Tall (List Expr)) (us : List To
 arg_comma next f found us a p q rest = rw (keyed_no (form a) (first us) c.comma refl)
     (rw (and_no (is_none found.tree) false refl) refl)
 
-pub arg_more : (next : Test) (f : ℕ) (found : Tall (List Expr)) (us : List Token) (a : Expr) (p : Place) (vs : List Token)
+pub arg_more : (next : Test) (f : ℕ) (found : Tall (List Expr)) (us : List Token) (a : Expr) (p : Place)
+    (vs : List Token)
     → is_op 33 (first vs) ≡ false → arg_next next f found us (of a, at c.comma p ∷ vs) ≡ args_at next f
     (push found (of a)) vs
 arg_more next f found us a p vs h = rw (keyed_no (form a) (first us) c.comma refl)
@@ -296,7 +298,8 @@ pub two_reads : {A B C : Type 0} (x : Marks) (r : Reads A) (f : A × List Token 
 two_reads x r f k a us v vs y ws e (inl p) q = inr (y, ws, e, ap (λ z. (z >>= f) >>= k) p ∙ ap (λ z. z >>= k) q)
 two_reads x r f k a us v vs y ws e (inr p) q = inr (p.0, p.1, p.2, ap (λ z. (z >>= f) >>= k) p.3)
 
-pub strings : {x : Marks} {w : List ℕ} {ts : List Token} → Strings x w ts → (g d : ℕ) (rest : List Token) → length ts ≤ g →
+pub strings : {x : Marks} {w : List ℕ} {ts : List Token} → Strings x w ts → (g d : ℕ) (rest : List Token) →
+    length ts ≤ g →
     0 < d → stops 0 (first rest) ≡ true → Reaches x ((reads g d).read 0 (ts ++ rest)) (of (e.Str w)) rest
 strings (G.one x w p) g d rest b h s = as_value x _ _ _ rest (as_string w)
     (inl (reads_atom g d _ h ∙ s_string (reads g (d - 1)) g w p rest ∙
@@ -356,8 +359,8 @@ unfolding named_at
 s_named_comma next zero found j q rest b = absurd (omega arith)
 s_named_comma next (suc f) found j q rest b = refl
 
-pub s_named : (next : Test) (f : ℕ) (found : Tall (List Named)) (j : Place) (n : List ℕ) (p i : Place) (us : List Token) →
-    named_at next (suc f) found (at c.comma j ∷ at (k.Name n) p ∷ at c.assign i ∷ us) ≡
+pub s_named : (next : Test) (f : ℕ) (found : Tall (List Named)) (j : Place) (n : List ℕ) (p i : Place)
+    (us : List Token) → named_at next (suc f) found (at c.comma j ∷ at (k.Name n) p ∷ at c.assign i ∷ us) ≡
     (next us >>= λ a. named_at next f (push_named found n a.0) a.1)
 unfolding named_at name_at op_at
 s_named next f found j n p i us = refl
