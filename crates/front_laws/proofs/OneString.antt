@@ -150,7 +150,8 @@ same_literal xs ys b d p r (literal q {ps = ps} {qs = qs} {cs = cs} h k w close)
     let front : ps ≡ os = sym (run_is q ps qs cs p h k w) ∙ ap (run Name) e ∙ run_is o os rs ds r g j v in
     let rest : qs ++ cs ≡ rs ++ ds = sym (after_is q ps qs cs p h k w) ∙ ap (after Name) e ∙
     after_is o os rs ds r g j v in
-    let quoting : q ≡ o = sym (quoted_once q qs b cs k w close) ∙ ap quotes_at rest ∙ quoted_once o rs d ds j v shut in (
+    let quoting : q ≡ o = sym (quoted_once q qs b cs k w close) ∙ ap quotes_at rest ∙
+    quoted_once o rs d ds j v shut in (
       one_prefix os p r (subst (λ zs. Prefixes zs p) front h) g,
       same_body q o qs rs b d cs ds k w v close shut quoting
           rest,

@@ -32,8 +32,10 @@ pub fn spelling_law()
     ensures tokens { (text : List ℕ) (ts : List Token) → tokens_of_text text ≡ Ok ts →
         Pieces (length text) (text_characters text) (in_line ts) None }
     ensures refused { (text : List ℕ) (e : Refusal) → tokens_of_text text ≡ Err e →
-        ((line : ℕ) × (e ≡ BadDedent line)) ⊎ ((ts : List Token) × Pieces (length text) (text_characters text) ts (Some e)) }
-    ensures bad { (size : ℕ) (c : Character) (cs : List Character) (ts : List Token) (e : Option Refusal) → IsNoSpace c cs → HasNoFront (c ∷ cs) →
+        ((line : ℕ) × (e ≡ BadDedent line))
+        ⊎ ((ts : List Token) × Pieces (length text) (text_characters text) ts (Some e)) }
+    ensures bad { (size : ℕ) (c : Character) (cs : List Character) (ts : List Token) (e : Option Refusal) →
+        IsNoSpace c cs → HasNoFront (c ∷ cs) →
         (BeginsString (c ∷ cs) → ⊥) → Pieces size (c ∷ cs) ts e → (ts ≡ []) × (e ≡ Some (BadCharacter c.line)) }
     ensures one { (cs : List Character) (a b : TokenKind) → Spells cs a → Spells cs b → a ≡ b }
 {}

@@ -25,7 +25,7 @@ use Rattle.py_parser.specs.inner.Reading.{Test, ◌>>=◌, first, rest, is_op, i
 use Rattle.py_parser.specs.inner.Aiming.{closed_at, round_rest, aim_round, list_rest, aim_list, aim_atom, aim_at}
 use Rattle.py_parser.proofs.Steps.{of}
 use Rattle.py_parser.proofs.Facts.{no}
-use Rattle.py_parser.proofs.Complete.{tests_nil}
+use Rattle.py_parser.proofs.ReadSteps.{tests_nil}
 use Rattle.py_parser.proofs.Values.{plus_tests, as_name, as_group, as_unit, as_no_list, as_tuple, as_list}
 use Rattle.py_parser.proofs.Told.{any, low, marked, Opens, more, Told, told_done, told_refused, there, told_left, told_same, told_if, told_deep, told_post, told_take, told_word, told_bind, told_kind, on, here, move}
 use Rattle.py_parser.proofs.Tells.{only_keyword, only_op, p0, free, length_after, then_tests, then_commas, Commaed, Following}

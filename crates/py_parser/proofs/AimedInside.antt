@@ -1,5 +1,6 @@
 -- What reading tests in brackets tells, where the brackets stand in the place of a target.
 use Rattle.std.proofs.Common.{◌≡◌, ℕ, zero, suc, ◌-◌, ◌<◌, ◌≤◌, nat_lt, nat_le, max, Bool, true, false, ◌||◌, List, [], ◌∷◌, ◌++◌, length, Ok, Err, None, inl, inr, refl, sym, ap, ◌∙◌, subst, append_assoc, append-nil, arith, if◌then◌else◌}
+use Rattle.std.proofs.lemmas.Bool.{or_right}
 use Rattle.py_tokens.specs.declared.token.Token.{Token}
 use Rattle.py_tokens.specs.declared.token.TokenKind.TheVariants as k
 use Rattle.py_tokens.specs.declared.token.Place.{Place}
@@ -23,7 +24,7 @@ use Rattle.py_parser.specs.inner.Reading.{Test, ◌>>=◌, Below, first, rest, i
 use Rattle.py_parser.specs.inner.Aiming.{after_rung, grown_at, grows, risen_at, element_at, fine, next_at, elements_at, closing_at, closed_at}
 use Rattle.py_parser.proofs.Steps.{of}
 use Rattle.py_parser.proofs.Facts.{no}
-use Rattle.py_parser.proofs.Complete.{tests_nil}
+use Rattle.py_parser.proofs.ReadSteps.{tests_nil}
 use Rattle.py_parser.proofs.Values.{plus_tests, push_tests}
 use Rattle.py_parser.proofs.Told.{Mode, any, low, Opens, alone, near, with_none, more, more_is, Told, told_done, told_ends, told_refused, there, told_as, told_same, told_if, told_post, told_take, told_word, told_bind, told_map, on, here, move}
 use Rattle.py_parser.proofs.Tells.{only_op, Hole, Read, p0, free, length_after, then_tests, Commaed, trailing, further, Following, no_more, commaed}
@@ -185,10 +186,6 @@ joined_target f q h e i = many q.0 q.1 q.2 (subst (λ z. is_target false z ≡ t
     many : (s z : Bool) → f ≡ Many s z → s ≡ true → is_target false (joined f h) ≡ true
     many s z j e2 = rw j (rw e2 (rw i refl))
 
-or_right_true : (a b : Bool) → b ≡ true → (a || b) ≡ true
-or_right_true true b h = refl
-or_right_true false b h = h
-
 module _ (w y g p : ℕ) (aim' aim : Test) (tell : TellAim y g p aim' aim) where
   abbrev pub SuitsAll : Tall (List Expr) → Type 0
   SuitsAll v = Suits p v.form v.tall
@@ -207,7 +204,7 @@ module _ (w y g p : ℕ) (aim' aim : Test) (tell : TellAim y g p aim' aim) where
   fine_more v e = elim (either (is_target false v.form) _ e) [
     | inl q ↦ rw q refl
     | inr q ↦ let i : v.tall < p = grind (arith, q) in let j : v.tall < more y p = omega (arith, i, more_is y p) in
-        or_right_true (is_target false v.form) _ (grind (arith, j))
+        or_right (is_target false v.form) _ (grind (arith, j))
   ]
 
   abbrev pub NextHole : Tall (List Expr) → List Token → Type 0

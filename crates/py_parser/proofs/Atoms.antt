@@ -22,7 +22,7 @@ use Rattle.py_parser.specs.inner.Tall.{plain, start, push_pair, of_string, of_tu
 use Rattle.py_parser.specs.inner.Reading.{no_start, Test, Below, first, rest, is_op, is_keyword, comes, left_at, is_some, atom_at, round_at, round_close, list_at, list_close, dict_at, dict_close, dict_value, atom_of, pairs_at}
 use Rattle.py_parser.proofs.Steps.{of}
 use Rattle.py_parser.proofs.Facts.{no, some_inj}
-use Rattle.py_parser.proofs.Complete.{pairs_nil, s_pairs_end}
+use Rattle.py_parser.proofs.ReadSteps.{pairs_nil, s_pairs_end}
 use Rattle.py_parser.proofs.Values.{plus_pairs, push_pairs, as_name, as_int, as_string, as_group, as_unit, as_tuple, as_no_list, as_list, as_dict}
 use Rattle.py_parser.proofs.Told.{Mode, low, marked, Fits, Opens, with_none, more, Told, told_done, told_ends, told_refused, told_left, told_same, told_if, told_post, told_take, told_word, told_bind, told_map, told_kind, on, here, move, there}
 use Rattle.py_parser.proofs.Tells.{only_op, only_keyword, Hole, Read, Tell, told_read, told_need, p0, word, is_word, free, length_after, then_tests, then_commas, AfterTest, then_strings, tell_strings, tell_tests, tell_commas}

@@ -1,5 +1,6 @@
 -- What the grammar of expressions has is read.
 use Rattle.std.proofs.Common.{◌≡◌, ℕ, ℤ, zero, suc, ◌+◌, ◌<◌, ◌≤◌, Bool, true, false, ◌||◌, List, [], ◌∷◌, ◌++◌, length, Ok, Err, Some, None, inl, inr, refl, sym, ap, ◌∙◌, subst, append_assoc, arith, eq-eqb, le-ltb}
+use Rattle.std.proofs.lemmas.Bool.{or_parts}
 use Rattle.py_tokens.specs.declared.token.Token.{Token}
 use Rattle.py_tokens.specs.declared.token.TokenKind.{TokenKind}
 use Rattle.py_tokens.specs.declared.token.TokenKind.TheVariants as k
@@ -18,7 +19,7 @@ use Rattle.py_tree.specs.declared.expr.Sign.{Sign}
 use Rattle.py_tree.specs.declared.expr.Sign.TheVariants as sign
 use Rattle.py_parser.specs.declared.rung.Rung.TheVariants.{Negated}
 use Rattle.py_parser.specs.inner.Reading.{Reads, Test, ◌>>=◌, Below, first, rest, is_op, comes, left_at, is_some, rung_at, atom_at, trail_at, power_at, chain_at, choice_at, after_at, signed, sign_of, trails, links, links_at}
-use Rattle.py_parser.proofs.Steps.{Reaches, at_same, or_left}
+use Rattle.py_parser.proofs.Steps.{Reaches, at_same}
 use Rattle.py_parser.proofs.Facts.{no, comes_at, not_op, not_keyword, takes_not, not_true}
 use Rattle.py_parser.specs.inner.Follow.{stops}
 use Rattle.py_parser.specs.Words.{sign_word}
@@ -237,15 +238,11 @@ pub s_tests_comma : (next : Test) (f : ℕ) (found : Tall (List Expr)) (p : Plac
 unfolding tests_at
 s_tests_comma next f found p us h = rw h refl
 
-pub or_right : (a b : Bool) → (a || b) ≡ false → b ≡ false
-or_right true b h = no h
-or_right false b h = h
-
 pub no_comma : (kind : TokenKind) → stops 15 kind ≡ true → is_op 38 kind ≡ false
-no_comma kind h = or_left (is_op 38 kind) _ (takes_not 14 kind h)
+no_comma kind h = (or_parts (is_op 38 kind) _ (takes_not 14 kind h)).0
 
 pub no_test : (kind : TokenKind) → stops 15 kind ≡ true → comes 14 kind ≡ false
-no_test kind h = or_right (is_op 38 kind) _ (takes_not 14 kind h)
+no_test kind h = (or_parts (is_op 38 kind) _ (takes_not 14 kind h)).1
 
 no_string : (kind : TokenKind) → stops 0 kind ≡ true → string_of kind ≡ None
 no_string (k.Str s) h = no (sym h)
@@ -260,7 +257,7 @@ no_string k.End h = refl
 no_string (k.Other o) h = refl
 
 no_unicode : (kind : TokenKind) → stops 0 kind ≡ true → is_unicode kind ≡ false
-no_unicode kind h = or_right (is_some (string_of kind)) _ (not_true _ h)
+no_unicode kind h = (or_parts (is_some (string_of kind)) _ (not_true _ h)).1
 
 pub s_strings_end : (f : ℕ) (found : List ℕ) (us : List Token) → stops 0 (first us) ≡ true →
     strings_at f found us ≡ Ok (found, us)

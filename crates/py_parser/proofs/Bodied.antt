@@ -25,13 +25,13 @@ use Rattle.py_parser.specs.inner.Lines.{is_end, Suite, block_at, line_of_at, sta
 use Rattle.py_tree.specs.declared.stmt.Arm.{Arm}
 use Rattle.py_tree.specs.declared.stmt.Clause.{Clause}
 use Rattle.py_tree.specs.declared.stmt.Handler.{Handler}
-use Rattle.py_parser.proofs.Blocks.{talls_append}
-use Rattle.py_parser.proofs.Bodies.{only_newline}
-use Rattle.py_parser.proofs.Bodies.{tell_line}
+use Rattle.py_parser.proofs.BlockSteps.{talls_append}
+use Rattle.py_parser.proofs.LineTells.{only_newline}
+use Rattle.py_parser.proofs.LineTells.{tell_line}
 use Rattle.py_parser.proofs.Targets.{tell_exprs}
-use Rattle.py_parser.proofs.Blocks.{statement_long}
+use Rattle.py_parser.proofs.BlockSteps.{statement_long}
 use Rattle.py_parser.proofs.Wholes.{tell_compound}
-use Rattle.py_parser.proofs.Bodies.{only_newline}
+use Rattle.py_parser.proofs.LineTells.{only_newline}
 use Rattle.py_parser.specs.Statements.{Body}
 use Rattle.py_parser.proofs.Modules.{lowers, TellStatement, tell_statement_at, tell_block}
 use Rattle.py_parser.specs.Refused.{EndsOnce}

@@ -21,7 +21,7 @@ use Rattle.py_parser.specs.inner.Aiming.{Readers}
 use Rattle.py_parser.specs.inner.Reading.{◌>>=◌, first, is_op, is_keyword, comes, is_some, op_at}
 use Rattle.py_parser.proofs.Steps.{of}
 use Rattle.py_parser.proofs.Facts.{no}
-use Rattle.py_parser.proofs.Complete.{tests_nil}
+use Rattle.py_parser.proofs.ReadSteps.{tests_nil}
 use Rattle.py_parser.proofs.Values.{plus_tests, push_tests, of_or, as_tuple}
 use Rattle.py_parser.proofs.Told.{Mode, any, low, marked, Fits, Opens, near, with_none, more, Told, told_done, told_ends, told_refused, told_left, told_as, told_if, told_post, told_take, told_word, told_bind, told_map, told_when, told_room, on, here, move, there}
 use Rattle.py_parser.proofs.Tells.{only_op, only_keyword, told_need, told_need_name, p0, word, is_word, free, length_after}

@@ -1,6 +1,6 @@
 -- Words on a line are laid out, and so are simple statements on lines.
 use Rattle.std.proofs.Common.{◌≡◌, ℕ, ◌+◌, ◌-◌, ◌<◌, ◌≤◌, Bool, true, false, ◌==◌, ◌||◌, if◌then◌else◌, List, [], ◌∷◌, ◌++◌, refl, sym, ap, ◌∙◌, subst, append_assoc, arith}
-use Rattle.std.proofs.lemmas.Bool.{eqb-false}
+use Rattle.std.proofs.lemmas.Bool.{eqb-false, or_parts}
 use Rattle.py_tokens.specs.declared.operator.TheConstants as operator
 use Rattle.py_tokens.specs.declared.token.Token.{Token}
 use Rattle.py_tokens.specs.declared.token.TokenKind.{TokenKind}
@@ -119,10 +119,6 @@ semicolon_laid short l ws ps tail j depth s p b h e r =
     (phrase_laid ws l j depth s (on l (k.Op operator.SEMICOLON ∷ []) ++ (in_order short ps ++ tail)) p b h
     (same, refl, r)))
 
-or_right : (p q : Bool) → (p || q) ≡ false → q ≡ false
-or_right true q e = absurd (cc)
-or_right false q e = e
-
 -- one before another of line m
 next_laid : (short : Bool) (l m : ℕ) (ws : Words) (ps : List Piece) (tail : List Lexeme) (j depth : ℕ) (s : Stand) →
     Phrase ws → brackets s ≡ 0 → j ≤ l → l ≤ m →
@@ -135,7 +131,7 @@ next_laid short l m ws ps tail j depth s p b h le e r = go (short || (l == m)) r
     go true f = semicolon_laid short l ws ps tail j depth s p b h
         (e ∙ ap (λ z. if z then on l (k.Op operator.SEMICOLON ∷ []) else newline) f) (r l (Within 0) refl le)
     go false f =
-        let other : l ≡ m → ⊥ = eqb-false l m (or_right short (l == m) f) in
+        let other : l ≡ m → ⊥ = eqb-false l m (or_parts short (l == m) f).1 in
         let more : l + 1 ≤ m = omega arith in
         last_laid short l ws ps tail j depth s p b h
         (e ∙ ap (λ z. if z then on l (k.Op operator.SEMICOLON ∷ []) else newline) f) (r (l + 1) Start refl more)

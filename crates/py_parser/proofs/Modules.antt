@@ -25,13 +25,14 @@ use Rattle.py_tree.specs.Tall.{tall, talls}
 use Rattle.py_parser.proofs.Simples.{Lowers, Targeting}
 use Rattle.py_parser.specs.Statements.{Line, Parameter, Later, Parameters, Params, Base, Caught, Statement, Suite as Suites, Block, Elifs, Else, Finally, Excepts, Compound}
 use Rattle.py_parser.specs.inner.Lines.{is_indent, is_dedent, line_at, Suite, Parts, compound_at, is_compound, statement_by, statement_at, suite_at, block_at}
-use Rattle.py_parser.proofs.Blocks.{talls_append}
-use Rattle.py_parser.proofs.Bodies.{only_newline, only_indent, told_plain, TellBlock, body0, pass0, block0, tall0}
-use Rattle.py_parser.proofs.Bodies.{tell_line}
+use Rattle.py_parser.proofs.BlockSteps.{talls_append}
+use Rattle.py_parser.proofs.LineTells.{only_newline, only_indent, told_plain}
+use Rattle.py_parser.proofs.Bodies.{TellBlock, body0, pass0, block0, tall0}
+use Rattle.py_parser.proofs.LineTells.{tell_line}
 use Rattle.py_parser.proofs.Targets.{tell_exprs}
 use Rattle.py_parser.proofs.Levels.{unders}
-use Rattle.py_parser.proofs.Blocks.{statement_long}
-use Rattle.py_parser.proofs.Bodies.{told_plain, only_newline, only_indent}
+use Rattle.py_parser.proofs.BlockSteps.{statement_long}
+use Rattle.py_parser.proofs.LineTells.{told_plain, only_newline, only_indent}
 use Rattle.py_parser.specs.Statements.{Body}
 
 only_dedent : (x : TokenKind) → is_dedent x ≡ true → x ≡ k.Dedent

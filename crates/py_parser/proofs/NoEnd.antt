@@ -1,5 +1,6 @@
 -- In what comes before it, there is no End.
 use Rattle.std.proofs.Common.{◌≡◌, ℕ, Bool, true, false, ◌||◌, List, [], ◌∷◌, ◌++◌, Option, refl}
+use Rattle.std.proofs.lemmas.Bool.{or_from, or_parts}
 use Rattle.py_tokens.specs.declared.token.Token.{Token}
 use Rattle.py_tokens.specs.declared.token.Place.{Place}
 use Rattle.py_tree.specs.declared.expr.Expr.{Expr}
@@ -15,8 +16,6 @@ use Rattle.py_tree.specs.declared.expr.Operator.TheVariants as op
 use Rattle.py_parser.specs.Words.{spelled, sign_word}
 use Rattle.py_parser.specs.Grammar as G
 use Rattle.py_parser.specs.Grammar.{Marks, Is, Strings, Tests, Commas, Exprs, Pairs, Links, Trailers, Trails, Maybe, Args}
-use Rattle.py_parser.proofs.Steps.{or_left}
-use Rattle.py_parser.proofs.Begin.{or_right}
 use Rattle.py_parser.specs.Statements as S
 use Rattle.py_parser.specs.Statements.{slices, Target, Targets, Loops, Equals}
 use Rattle.py_parser.specs.Statements.{Names, Renamed, Imports, Simple}
@@ -40,17 +39,13 @@ pub record NoEnd (ts : List Token) : Type 0 where
 pub nil : NoEnd []
 nil = record { none = refl }
 
-no_or : (a b : Bool) → a ≡ false → b ≡ false → (a || b) ≡ false
-no_or true b e f = e
-no_or false b e f = f
-
 pub step : {t : Token} {ts : List Token} → is_end t.kind ≡ false → NoEnd ts → NoEnd (t ∷ ts)
-step {t = t} {ts = ts} e n = record { none = no_or (is_end t.kind) (has_end ts) e n.none }
+step {t = t} {ts = ts} e n = record { none = or_from (is_end t.kind) (has_end ts) e n.none }
 
 append_none : (ts us : List Token) → has_end ts ≡ false → has_end us ≡ false → has_end (ts ++ us) ≡ false
 append_none [] us e f = f
-append_none (t ∷ ts) us e f = no_or (is_end t.kind) _ (or_left (is_end t.kind) _ e)
-    (append_none ts us (or_right (is_end t.kind) _ e) f)
+append_none (t ∷ ts) us e f = or_from (is_end t.kind) _ (or_parts (is_end t.kind) _ e).0
+    (append_none ts us (or_parts (is_end t.kind) _ e).1 f)
 
 pub no2 : {ts us : List Token} → NoEnd ts → NoEnd us → NoEnd (ts ++ us)
 no2 {ts = ts} {us = us} n m = record { none = append_none ts us n.none m.none }

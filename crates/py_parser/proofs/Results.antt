@@ -1,6 +1,7 @@
 -- What the reading of a module answers: a module of these tokens and of a height of at most 100, every such module, or
 -- where and why there is none.
 use Rattle.std.proofs.Common.{◌≡◌, ℕ, ◌+◌, ◌≤◌, ◌<◌, max, List, [], ◌∷◌, ◌++◌, length, Ok, Err, Some, None, suc, inl, inr, refl, sym, ap, ◌∙◌, subst, append_assoc, append-nil, arith, length-append}
+use Rattle.std.proofs.lemmas.Bool.{or_parts}
 use Rattle.py_base.specs.declared.refusal.Construct.{Construct}
 use Rattle.py_tokens.specs.declared.token.Token.{Token}
 use Rattle.py_tokens.specs.declared.token.TokenKind.TheVariants as k
@@ -20,8 +21,8 @@ use Rattle.py_parser.specs.inner.Lines.{statements_at, body_more, module_at}
 use Rattle.py_parser.specs.Refused.{Begins, BeginsWith, Because, RefusedAt, EndsOnce}
 use Rattle.py_parser.proofs.Steps.{Reaches}
 use Rattle.py_parser.proofs.Facts.{no}
-use Rattle.py_parser.proofs.Simple.{slack}
-use Rattle.py_parser.proofs.Blocks.{highest_talls}
+use Rattle.py_parser.proofs.TargetReads.{slack}
+use Rattle.py_parser.proofs.BlockSteps.{highest_talls}
 use Rattle.py_parser.proofs.Whole.{complete_body, only}
 use Rattle.py_parser.specs.Parses.{Parses}
 use Rattle.py_parser.specs.inner.Outcome.{Fails}
@@ -29,8 +30,6 @@ use Rattle.py_parser.specs.declared.error.ParseError.{ParseError}
 use Rattle.py_parser.specs.declared.error.ParseError.TheVariants.{Refused, OutOfMemory}
 use Rattle.py_parser.proofs.Told.{Beyond, any, Opens, SameFirst, more, more_is, Stays, Told, Stopped}
 use Rattle.py_parser.proofs.NoEnd.{NoEnd, nil, step, no2, no_Statement}
-use Rattle.py_parser.proofs.Steps.{or_left}
-use Rattle.py_parser.proofs.Begin.{or_right}
 use Rattle.py_parser.proofs.Aims.{aims}
 use Rattle.py_parser.specs.inner.Lines.{is_end}
 use Rattle.py_parser.proofs.Bodied.{Targets', BodyHole, tell_body}
@@ -104,9 +103,9 @@ ends_more : (xs ys us : List Token) (p : Place) → EndsOnce xs → NoEnd us →
 unfolding tail first_or
 ends_more [] ys us p h n e = absurd h
 ends_more (x ∷ xs) ys (u ∷ us) p (inl q) n e = let same : x ≡ u = ap (first_or x) e in
-    no (sym (ap (λ z. is_end z.kind) (sym same) ∙ ap is_end q.0) ∙ or_left (is_end u.kind) _ n.none)
+    no (sym (ap (λ z. is_end z.kind) (sym same) ∙ ap is_end q.0) ∙ (or_parts (is_end u.kind) _ n.none).0)
 ends_more (x ∷ xs) ys (u ∷ us) p (inr q) n e =
-    ends_more xs ys us p q.1 (record { none = or_right (is_end u.kind) _ n.none }) (ap tail e)
+    ends_more xs ys us p q.1 (record { none = (or_parts (is_end u.kind) _ n.none).1 }) (ap tail e)
 ends_more (x ∷ xs) ys [] p (inl q) n e = (none_both xs ys (ap tail e)).1
 ends_more (x ∷ xs) ys [] p (inr q) n e = absurd (subst EndsOnce ((none_both xs ys (ap tail e)).0) q.1)
 

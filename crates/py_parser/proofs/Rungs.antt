@@ -24,7 +24,7 @@ use Rattle.py_parser.specs.inner.Tall.{push_link}
 use Rattle.py_parser.specs.inner.Reading.{linked, operator_of, operator_rest, Test, first, is_keyword, is_some, links, links_at}
 use Rattle.py_parser.proofs.Steps.{of}
 use Rattle.py_parser.proofs.Facts.{word_links, below_small, no, some_inj}
-use Rattle.py_parser.proofs.Complete.{links_nil, s_links_end}
+use Rattle.py_parser.proofs.ReadSteps.{links_nil, s_links_end}
 use Rattle.py_parser.proofs.Values.{plus_links, push_links}
 use Rattle.py_parser.proofs.Told.{Mode, low, Fits, Opens, cut, with_none, more, Told, told_done, told_ends, told_same, told_post, told_take, told_word, told_bind, told_kind, on, here, move, there}
 use Rattle.py_parser.proofs.Tells.{only_keyword, Tell, told_read, told_need_word, p0, word, is_word, length_after}
@@ -161,19 +161,20 @@ tell_rest l op.Floor lv t pre us p o = told_done (p0, lv, refl)
 tell_rest l op.Remainder lv t pre us p o = told_done (p0, lv, refl)
 tell_rest l op.Power lv t pre us p o = told_done (p0, lv, refl)
 
+-- End is no operator of a level
+ends : (l : Level) → links l k.End ≡ false
+ends level.Or = refl
+ends level.And = refl
+ends level.Compare = refl
+ends level.BitOr = refl
+ends level.BitXor = refl
+ends level.BitAnd = refl
+ends level.Shift = refl
+ends level.Sum = refl
+ends level.Term = refl
+
 begins : (l : Level) (o : Operator) → level_of o ≡ Some l → first_word o ≡ k.End → ⊥
 begins l o e q = no (sym (word_links o l e) ∙ ap (links l) q ∙ ends l)
-  where
-    ends : (l : Level) → links l k.End ≡ false
-    ends level.Or = refl
-    ends level.And = refl
-    ends level.Compare = refl
-    ends level.BitOr = refl
-    ends level.BitXor = refl
-    ends level.BitAnd = refl
-    ends level.Shift = refl
-    ends level.Sum = refl
-    ends level.Term = refl
 
 pub low_level : (l : Level) → below l ≤ 14
 low_level l = omega (arith, below_small l)
@@ -234,17 +235,6 @@ module _ (w y g d : ℕ) (l : Level) (next' next : Test) (tell : Tell y g d (bel
       told_ends found ([], sym (links_nil found k'), (λ x. no_link x l), omega arith) refl
       (λ us s. with_none (λ z. links_at l next' w found z ≡ Ok (found, z)) us (s_links_end l next' w found [] (ends l))
       s)
-    where
-      ends : (l : Level) → links l k.End ≡ false
-      ends level.Or = refl
-      ends level.And = refl
-      ends level.Compare = refl
-      ends level.BitOr = refl
-      ends level.BitXor = refl
-      ends level.BitAnd = refl
-      ends level.Shift = refl
-      ends level.Sum = refl
-      ends level.Term = refl
   tell_links zero found k' pre (t ∷ ts) len i z' hole = absurd (omega (arith, len))
   tell_links (suc f) found k' pre ts len i z' hole =
       told_kind (λ κ us. linked next' (links_at l next' (more w f)) (operator_of l κ) found us)

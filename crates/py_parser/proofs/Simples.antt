@@ -31,7 +31,7 @@ use Rattle.py_parser.specs.Statements as S
 use Rattle.py_parser.specs.Statements.{slices, Target, Targets, Loops, Equals}
 use Rattle.py_parser.specs.inner.Lines.{Stop, target_at, targets_at, equals_at, ends_del, is_newline}
 use Rattle.py_parser.proofs.Targets.{TellExprs, told_exprs, exprs_word, told_checked, target_any, single_any, word_target}
-use Rattle.py_parser.proofs.Simple.{exprs_headed}
+use Rattle.py_parser.proofs.AssignReads.{exprs_headed}
 use Rattle.py_parser.specs.Words.{assigned, augment_word}
 use Rattle.py_parser.specs.Statements.{Names, Renamed, Imports, Simple}
 use Rattle.py_parser.specs.inner.Lines.{run_or_assign, assigned_of, run_at, names_at, import_name_at, renamed_at, imported_at, imports_at, running_at}

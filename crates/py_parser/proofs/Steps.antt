@@ -1,5 +1,6 @@
 -- The equations of reading.
 use Rattle.std.proofs.Common.{◌≡◌, ℕ, zero, suc, ◌-◌, ◌<◌, Bool, true, false, ◌||◌, List, Ok, Err, Option, Some, None, ◌⊎◌, inl, inr, refl, ap, ◌∙◌, arith}
+use Rattle.std.proofs.lemmas.Bool.{or_parts}
 use Rattle.py_tokens.specs.declared.token.Token.{Token}
 use Rattle.py_tree.specs.declared.expr.Expr.{Expr}
 use Rattle.py_tree.specs.declared.expr.Level.{Level}
@@ -81,10 +82,6 @@ pub after_quiet : (under : Below) (g d : ℕ) (v : Tall Expr) (us : List Token) 
 unfolding after_at
 after_quiet under g d v us h = rw h refl
 
-pub or_left : (a b : Bool) → (a || b) ≡ false → a ≡ false
-or_left true b h = absurd (grind (arith, h))
-or_left false b h = refl
-
 pub none_of : {A : Type 0} (o : Option A) → is_some o ≡ false → o ≡ None
 none_of None h = refl
 none_of (Some a) h = absurd (grind (arith, h))
@@ -104,4 +101,4 @@ quiet x Negated under g d operand us vs v h t p = rw h p
 quiet x Chosen under g d operand us vs v h t p =
     rw h (then_reads x (operand us) (choice_at under d) v vs v vs p (inl (choice_quiet under d v vs t)))
 quiet x Listed under g d operand us vs v h t p = then_reads x (operand us) (λ a. after_at under g d a.0 a.1) v vs v vs
-    p (inl (after_quiet under g d v vs (or_left (is_op 38 (first vs)) _ t)))
+    p (inl (after_quiet under g d v vs (or_parts (is_op 38 (first vs)) _ t).0))

@@ -18,7 +18,7 @@ use Rattle.py_parser.specs.inner.Tall.{push}
 use Rattle.py_parser.specs.inner.Reading.{joined as joined_strings, name_or, name_of, string_of, is_unicode, strings_at, Reads, Test, ◌>>=◌, first, rest, is_op, is_keyword, comes, is_some, tests_at, keyword_at, op_at, name_at}
 use Rattle.py_parser.proofs.Steps.{of}
 use Rattle.py_parser.proofs.Facts.{no, some_inj}
-use Rattle.py_parser.proofs.Complete.{tests_nil}
+use Rattle.py_parser.proofs.ReadSteps.{tests_nil}
 use Rattle.py_parser.proofs.Begin.{s_tests_end, s_strings_end}
 use Rattle.py_parser.proofs.Values.{plus_tests, push_tests}
 use Rattle.py_parser.proofs.Told.{Mode, low, marked, Fits, Opens, near, with_none, more, Told, told_done, told_ends, told_refused, told_left, told_as, told_if, told_post, told_take, told_word, told_bind, told_kind, bare, there}

@@ -28,7 +28,7 @@ use Rattle.py_parser.specs.inner.Tall.{plain, push, none, push_named, push_trail
 use Rattle.py_parser.specs.inner.Reading.{named_at, args_at, arg_by, keyed, is_bare, is_none, slice_close, slice_at, index_close, subscript_at, call_at, trailer_at, trailers_at, name_of, Test, ◌>>=◌, Below, first, is_op, is_keyword, comes, is_some, trail_at, trails}
 use Rattle.py_parser.proofs.Steps.{of}
 use Rattle.py_parser.proofs.Facts.{no}
-use Rattle.py_parser.proofs.Complete.{tests_nil, named_nil, trailers_nil, s_trailers_end, s_named_end, trail_long}
+use Rattle.py_parser.proofs.ReadSteps.{tests_nil, named_nil, trailers_nil, s_trailers_end, s_named_end, trail_long}
 use Rattle.py_parser.proofs.Begin.{long, headed}
 use Rattle.py_parser.proofs.Values.{plus_tests, push_tests, plus_named, push_nameds, plus_trailers, push_trailers, of_r, of_or, as_trail, as_attribute, as_index, as_slice, as_call}
 use Rattle.py_parser.proofs.Told.{Mode, any, low, marked, Fits, Opens, near, with_none, more, Told, told_done, told_ends, told_left, told_as, told_same, told_if, told_deep, told_post, told_take, told_word, told_bind, told_map, told_kind, told_pre, on, here, move, there}

@@ -10,8 +10,11 @@ use Rattle.py_parser.specs.inner.Reading.{Reads, ◌>>=◌, first, is_some}
 use Rattle.py_parser.proofs.Steps.{Reaches, then_reads, at_same}
 use Rattle.py_parser.proofs.Facts.{no}
 use Rattle.py_parser.proofs.Begin.{as_value}
-use Rattle.py_parser.proofs.Simple.{slack, stray, stray_newline}
-use Rattle.py_parser.proofs.Blocks.{complete_statement, clear, statement_first, stray_clear, statement_long, talls_append, highest_talls}
+use Rattle.py_parser.proofs.TargetReads.{slack}
+use Rattle.py_parser.proofs.Simple.{stray, stray_newline}
+use Rattle.py_parser.proofs.Blocks.{complete_statement}
+use Rattle.py_parser.proofs.HeadReads.{clear}
+use Rattle.py_parser.proofs.BlockSteps.{statement_first, stray_clear, statement_long, talls_append, highest_talls}
 use Rattle.py_parser.specs.Statements.{IsModule}
 use Rattle.py_tree.specs.declared.stmt.Module.{Module}
 use Rattle.py_tree.specs.Tall.{tall_module}

@@ -78,7 +78,8 @@ impl<F: for<'b> Fn(&'b [Token]) -> Result<(Tall<Expr>, &'b [Token]), ParseError>
         requires answers { AnswersAim (F.post self.now.inner) self.now.turns self.now.room }
         requires small { self.now.room < HEIGHT_LIMIT }
         requires low { budget ≤ self.now.room }
-        ensures value { Gives (λ x. (x.0, x.1.now)) result (element_at (aim_at self.now.turns self.now.room) self.now.turns budget tokens.now) }
+        ensures value { Gives (λ x. (x.0, x.1.now)) result
+            (element_at (aim_at self.now.turns self.now.room) self.now.turns budget tokens.now) }
         ensures fits { IfOk result (λ x. x.0.tall ≤ self.now.room) }
     {
         if starts(TARGET, tokens) {
@@ -94,7 +95,8 @@ impl<F: for<'b> Fn(&'b [Token]) -> Result<(Tall<Expr>, &'b [Token]), ParseError>
         requires calls { F.IsAlwaysCallable self.now.inner }
         requires answers { AnswersAim (F.post self.now.inner) self.now.turns self.now.room }
         requires small { self.now.room < HEIGHT_LIMIT }
-        ensures value { Gives (λ x. (x.0, x.1.now)) result (next_at (aim_at self.now.turns self.now.room) self.now.turns self.now.room found.now tokens.now) }
+        ensures value { Gives (λ x. (x.0, x.1.now)) result
+            (next_at (aim_at self.now.turns self.now.room) self.now.turns self.now.room found.now tokens.now) }
         ensures fits { IfOk result (λ x. x.0.tall ≤ self.now.room) }
     {
         let below = self.room.saturating_sub(1);
@@ -114,7 +116,9 @@ impl<F: for<'b> Fn(&'b [Token]) -> Result<(Tall<Expr>, &'b [Token]), ParseError>
         requires answers { AnswersAim (F.post self.now.inner) self.now.turns self.now.room }
         requires small { self.now.room < HEIGHT_LIMIT }
         requires low { first.tall ≤ self.now.room }
-        ensures value { Gives (λ x. (x.0, x.1.now)) result (elements_at (aim_at self.now.turns self.now.room) self.now.turns self.now.room self.now.turns (start first) tokens.now) }
+        ensures value { Gives (λ x. (x.0, x.1.now)) result
+            (elements_at (aim_at self.now.turns self.now.room)
+            self.now.turns self.now.room self.now.turns (start first) tokens.now) }
         ensures fits { IfOk result (λ x. x.0.tall ≤ self.now.room) }
     {
         let mut found = start(self.alloc, first)?;
@@ -144,7 +148,8 @@ impl<F: for<'b> Fn(&'b [Token]) -> Result<(Tall<Expr>, &'b [Token]), ParseError>
         requires answers { AnswersAim (F.post self.now.inner) self.now.turns self.now.room }
         requires small { self.now.room < HEIGHT_LIMIT }
         requires low { test.tall ≤ self.now.room }
-        ensures value { Gives (λ x. (x.0, x.1.now)) result (round_rest (aim_at self.now.turns self.now.room) self.now.turns self.now.room (test, tokens.now)) }
+        ensures value { Gives (λ x. (x.0, x.1.now)) result
+            (round_rest (aim_at self.now.turns self.now.room) self.now.turns self.now.room (test, tokens.now)) }
         ensures fits { IfOk result (λ x. x.0.tall ≤ self.now.room + 1) }
     {
         if op_next(tokens, operator::CLOSE_ROUND) {
@@ -168,7 +173,8 @@ impl<F: for<'b> Fn(&'b [Token]) -> Result<(Tall<Expr>, &'b [Token]), ParseError>
         requires calls { F.IsAlwaysCallable self.now.inner }
         requires answers { AnswersAim (F.post self.now.inner) self.now.turns self.now.room }
         requires small { self.now.room < HEIGHT_LIMIT }
-        ensures value { Gives (λ x. (x.0, x.1.now)) result (aim_round (aim_at self.now.turns self.now.room) self.now.turns self.now.room tokens.now) }
+        ensures value { Gives (λ x. (x.0, x.1.now)) result
+            (aim_round (aim_at self.now.turns self.now.room) self.now.turns self.now.room tokens.now) }
         ensures fits { IfOk result (λ x. x.0.tall ≤ self.now.room + 1) }
     {
         if op_next(tokens, operator::CLOSE_ROUND) {
@@ -189,7 +195,8 @@ impl<F: for<'b> Fn(&'b [Token]) -> Result<(Tall<Expr>, &'b [Token]), ParseError>
         requires answers { AnswersAim (F.post self.now.inner) self.now.turns self.now.room }
         requires small { self.now.room < HEIGHT_LIMIT }
         requires low { test.tall ≤ self.now.room }
-        ensures value { Gives (λ x. (x.0, x.1.now)) result (list_rest (aim_at self.now.turns self.now.room) self.now.turns self.now.room (test, tokens.now)) }
+        ensures value { Gives (λ x. (x.0, x.1.now)) result
+            (list_rest (aim_at self.now.turns self.now.room) self.now.turns self.now.room (test, tokens.now)) }
         ensures fits { IfOk result (λ x. x.0.tall ≤ self.now.room + 1) }
     {
         if keyword_next(tokens, keyword::FOR) {
@@ -206,7 +213,8 @@ impl<F: for<'b> Fn(&'b [Token]) -> Result<(Tall<Expr>, &'b [Token]), ParseError>
         requires calls { F.IsAlwaysCallable self.now.inner }
         requires answers { AnswersAim (F.post self.now.inner) self.now.turns self.now.room }
         requires small { self.now.room < HEIGHT_LIMIT }
-        ensures value { Gives (λ x. (x.0, x.1.now)) result (aim_list (aim_at self.now.turns self.now.room) self.now.turns self.now.room tokens.now) }
+        ensures value { Gives (λ x. (x.0, x.1.now)) result
+            (aim_list (aim_at self.now.turns self.now.room) self.now.turns self.now.room tokens.now) }
         ensures fits { IfOk result (λ x. x.0.tall ≤ self.now.room + 1) }
     {
         let none = no_tests(self.alloc);
@@ -232,7 +240,8 @@ impl<F: for<'b> Fn(&'b [Token]) -> Result<(Tall<Expr>, &'b [Token]), ParseError>
         requires answers { AnswersAim (F.post self.now.inner) self.now.turns self.now.room }
         requires small { self.now.room < HEIGHT_LIMIT }
         requires comes { first tokens.now ≡ k.Op op }
-        ensures value { Gives (λ x. (x.0, x.1.now)) result (aim_atom (aim_at self.now.turns self.now.room) self.now.turns self.now.room (k.Op op) tokens.now) }
+        ensures value { Gives (λ x. (x.0, x.1.now)) result
+            (aim_atom (aim_at self.now.turns self.now.room) self.now.turns self.now.room (k.Op op) tokens.now) }
         ensures fits { IfOk result (λ x. x.0.tall ≤ self.now.room + 1) }
     {
         match op {
@@ -252,7 +261,9 @@ impl<F: for<'b> Fn(&'b [Token]) -> Result<(Tall<Expr>, &'b [Token]), ParseError>
         requires calls { F.IsAlwaysCallable self.now.inner }
         requires answers { AnswersAim (F.post self.now.inner) self.now.turns self.now.room }
         requires small { self.now.room < HEIGHT_LIMIT }
-        ensures value { Gives (λ x. (x.0, x.1.now)) result (aim_atom (aim_at self.now.turns self.now.room) self.now.turns self.now.room (first tokens.now) tokens.now) }
+        ensures value { Gives (λ x. (x.0, x.1.now)) result
+            (aim_atom (aim_at self.now.turns self.now.room)
+            self.now.turns self.now.room (first tokens.now) tokens.now) }
         ensures fits { IfOk result (λ x. x.0.tall ≤ self.now.room + 1) }
     {
         let Some((token, more)) = split(tokens) else {

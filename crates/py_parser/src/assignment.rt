@@ -90,7 +90,8 @@ fn augment<'a>(
     tokens: &'a [Token],
 ) -> Read<'a, Stmt>
     requires { budget ≤ HEIGHT_LIMIT }
-    ensures { Gives (λ x. (x.0, x.1.now)) result (run_at (readers turns budget) turns line (target, tokens.now) (Some operator)) }
+    ensures { Gives (λ x. (x.0, x.1.now)) result
+        (run_at (readers turns budget) turns line (target, tokens.now) (Some operator)) }
 {
     if !is_single(false, target.form) {
         if is_single(true, target.form) {

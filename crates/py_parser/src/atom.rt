@@ -29,7 +29,8 @@ fn string_of(kind: &TokenKind) -> Option<&Bytes>
 }
 
 fn string_next(tokens: &[Token]) -> Option<&Bytes>
-    ensures { MatchOption result (string_of (first tokens.now) ≡ None) (λ s. string_of (first tokens.now) ≡ Some s.now) }
+    ensures { MatchOption result (string_of (first tokens.now) ≡ None)
+        (λ s. string_of (first tokens.now) ≡ Some s.now) }
 {
     match split(tokens) {
         None => None,
@@ -86,7 +87,8 @@ impl<F: for<'b> Fn(Request, &'b [Token]) -> Result<(Tall<Expr>, &'b [Token]), Pa
         requires answers { Answers (F.post self.now.inner) self.now.turns self.now.budget }
         requires small { self.now.budget < HEIGHT_LIMIT }
         requires low { test.tall ≤ self.now.budget }
-        ensures value { Gives (λ x. (x.0, x.1.now)) result (round_close (reads self.now.turns self.now.budget) self.now.turns (test, tokens.now)) }
+        ensures value { Gives (λ x. (x.0, x.1.now)) result
+            (round_close (reads self.now.turns self.now.budget) self.now.turns (test, tokens.now)) }
         ensures fits { IfOk result (λ x. x.0.tall ≤ self.now.budget + 1) }
     {
         if op_next(tokens, operator::CLOSE_ROUND) {
@@ -109,7 +111,8 @@ impl<F: for<'b> Fn(Request, &'b [Token]) -> Result<(Tall<Expr>, &'b [Token]), Pa
         requires calls { F.IsAlwaysCallable self.now.inner }
         requires answers { Answers (F.post self.now.inner) self.now.turns self.now.budget }
         requires small { self.now.budget < HEIGHT_LIMIT }
-        ensures value { Gives (λ x. (x.0, x.1.now)) result (round_at (reads self.now.turns self.now.budget) self.now.turns tokens.now) }
+        ensures value { Gives (λ x. (x.0, x.1.now)) result
+            (round_at (reads self.now.turns self.now.budget) self.now.turns tokens.now) }
         ensures fits { IfOk result (λ x. x.0.tall ≤ self.now.budget + 1) }
     {
         if op_next(tokens, operator::CLOSE_ROUND) {
@@ -128,7 +131,8 @@ impl<F: for<'b> Fn(Request, &'b [Token]) -> Result<(Tall<Expr>, &'b [Token]), Pa
         requires answers { Answers (F.post self.now.inner) self.now.turns self.now.budget }
         requires small { self.now.budget < HEIGHT_LIMIT }
         requires low { test.tall ≤ self.now.budget }
-        ensures value { Gives (λ x. (x.0, x.1.now)) result (list_close (reads self.now.turns self.now.budget) self.now.turns (test, tokens.now)) }
+        ensures value { Gives (λ x. (x.0, x.1.now)) result
+            (list_close (reads self.now.turns self.now.budget) self.now.turns (test, tokens.now)) }
         ensures fits { IfOk result (λ x. x.0.tall ≤ self.now.budget + 1) }
     {
         if keyword_next(tokens, keyword::FOR) {
@@ -145,7 +149,8 @@ impl<F: for<'b> Fn(Request, &'b [Token]) -> Result<(Tall<Expr>, &'b [Token]), Pa
         requires calls { F.IsAlwaysCallable self.now.inner }
         requires answers { Answers (F.post self.now.inner) self.now.turns self.now.budget }
         requires small { self.now.budget < HEIGHT_LIMIT }
-        ensures value { Gives (λ x. (x.0, x.1.now)) result (list_at (reads self.now.turns self.now.budget) self.now.turns tokens.now) }
+        ensures value { Gives (λ x. (x.0, x.1.now)) result
+            (list_at (reads self.now.turns self.now.budget) self.now.turns tokens.now) }
         ensures fits { IfOk result (λ x. x.0.tall ≤ self.now.budget + 1) }
     {
         if op_next(tokens, operator::CLOSE_SQUARE) {
@@ -167,7 +172,9 @@ impl<F: for<'b> Fn(Request, &'b [Token]) -> Result<(Tall<Expr>, &'b [Token]), Pa
         requires answers { Answers (F.post self.now.inner) self.now.turns self.now.budget }
         requires low_key { key.tall ≤ self.now.budget }
         requires low_value { value.tall ≤ self.now.budget }
-        ensures value { Gives (λ x. (x.0, x.1.now)) result (pairs_at ((reads self.now.turns self.now.budget).read TEST) self.now.turns (push_pair (plain [] 0) key value) tokens.now) }
+        ensures value { Gives (λ x. (x.0, x.1.now)) result
+            (pairs_at ((reads self.now.turns self.now.budget).read TEST)
+            self.now.turns (push_pair (plain [] 0) key value) tokens.now) }
         ensures fits { IfOk result (λ x. x.0.tall ≤ self.now.budget) }
     {
         let mut found = plain(Items::new(self.alloc), 0);
@@ -202,7 +209,8 @@ impl<F: for<'b> Fn(Request, &'b [Token]) -> Result<(Tall<Expr>, &'b [Token]), Pa
         requires small { self.now.budget < HEIGHT_LIMIT }
         requires low_key { key.tall ≤ self.now.budget }
         requires low_value { value.tall ≤ self.now.budget }
-        ensures value { Gives (λ x. (x.0, x.1.now)) result (dict_close (reads self.now.turns self.now.budget) self.now.turns key (value, tokens.now)) }
+        ensures value { Gives (λ x. (x.0, x.1.now)) result
+            (dict_close (reads self.now.turns self.now.budget) self.now.turns key (value, tokens.now)) }
         ensures fits { IfOk result (λ x. x.0.tall ≤ self.now.budget + 1) }
     {
         if keyword_next(tokens, keyword::FOR) {
@@ -219,7 +227,8 @@ impl<F: for<'b> Fn(Request, &'b [Token]) -> Result<(Tall<Expr>, &'b [Token]), Pa
         requires answers { Answers (F.post self.now.inner) self.now.turns self.now.budget }
         requires small { self.now.budget < HEIGHT_LIMIT }
         requires low { key.tall ≤ self.now.budget }
-        ensures value { Gives (λ x. (x.0, x.1.now)) result (dict_value (reads self.now.turns self.now.budget) self.now.turns (key, tokens.now)) }
+        ensures value { Gives (λ x. (x.0, x.1.now)) result
+            (dict_value (reads self.now.turns self.now.budget) self.now.turns (key, tokens.now)) }
         ensures fits { IfOk result (λ x. x.0.tall ≤ self.now.budget + 1) }
     {
         if op_next(tokens, operator::COLON) {
@@ -241,7 +250,8 @@ impl<F: for<'b> Fn(Request, &'b [Token]) -> Result<(Tall<Expr>, &'b [Token]), Pa
         requires calls { F.IsAlwaysCallable self.now.inner }
         requires answers { Answers (F.post self.now.inner) self.now.turns self.now.budget }
         requires small { self.now.budget < HEIGHT_LIMIT }
-        ensures value { Gives (λ x. (x.0, x.1.now)) result (dict_at (reads self.now.turns self.now.budget) self.now.turns tokens.now) }
+        ensures value { Gives (λ x. (x.0, x.1.now)) result
+            (dict_at (reads self.now.turns self.now.budget) self.now.turns tokens.now) }
         ensures fits { IfOk result (λ x. x.0.tall ≤ self.now.budget + 1) }
     {
         if op_next(tokens, operator::CLOSE_BRACE) {
@@ -258,7 +268,8 @@ impl<F: for<'b> Fn(Request, &'b [Token]) -> Result<(Tall<Expr>, &'b [Token]), Pa
         requires answers { Answers (F.post self.now.inner) self.now.turns self.now.budget }
         requires small { self.now.budget < HEIGHT_LIMIT }
         requires comes { first tokens.now ≡ k.Op op }
-        ensures value { Gives (λ x. (x.0, x.1.now)) result (atom_of (reads self.now.turns self.now.budget) self.now.turns (k.Op op) tokens.now) }
+        ensures value { Gives (λ x. (x.0, x.1.now)) result
+            (atom_of (reads self.now.turns self.now.budget) self.now.turns (k.Op op) tokens.now) }
         ensures fits { IfOk result (λ x. x.0.tall ≤ self.now.budget + 1) }
     {
         match op {
@@ -275,7 +286,8 @@ impl<F: for<'b> Fn(Request, &'b [Token]) -> Result<(Tall<Expr>, &'b [Token]), Pa
         requires calls { F.IsAlwaysCallable self.now.inner }
         requires answers { Answers (F.post self.now.inner) self.now.turns self.now.budget }
         requires small { self.now.budget < HEIGHT_LIMIT }
-        ensures value { Gives (λ x. (x.0, x.1.now)) result (atom_at (reads self.now.turns self.now.budget) self.now.turns tokens.now) }
+        ensures value { Gives (λ x. (x.0, x.1.now)) result
+            (atom_at (reads self.now.turns self.now.budget) self.now.turns tokens.now) }
         ensures fits { IfOk result (λ x. x.0.tall ≤ self.now.budget + 1) }
     {
         let Some((token, more)) = split(tokens) else {

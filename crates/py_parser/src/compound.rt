@@ -72,7 +72,8 @@ impl<F: for<'b> Fn(&'b [Token]) -> Result<(Items<Stmt>, &'b [Token]), ParseError
     /// An expression of a level.
     fn read<'a>(&self, level: u8, tokens: &'a [Token]) -> Read<'a, Tall<Expr>>
         requires { self.now.budget < HEIGHT_LIMIT }
-        ensures value { Gives (λ x. (x.0, x.1.now)) result ((readers self.now.turns self.now.budget).read level tokens.now) }
+        ensures value { Gives (λ x. (x.0, x.1.now)) result
+            ((readers self.now.turns self.now.budget).read level tokens.now) }
     {
         expression(
             self.alloc,
@@ -86,7 +87,8 @@ impl<F: for<'b> Fn(&'b [Token]) -> Result<(Items<Stmt>, &'b [Token]), ParseError
     /// The simple statements of a line, of a height of at most `budget + 1`.
     fn simple<'a>(&self, tokens: &'a [Token]) -> Read<'a, Items<Stmt>>
         requires { self.now.budget < HEIGHT_LIMIT }
-        ensures { Gives (λ x. (x.0, x.1.now)) result (line_at (readers self.now.turns self.now.budget) self.now.turns (self.now.budget + 1) tokens.now) }
+        ensures { Gives (λ x. (x.0, x.1.now)) result
+            (line_at (readers self.now.turns self.now.budget) self.now.turns (self.now.budget + 1) tokens.now) }
     {
         line(self.alloc, self.turns, self.budget + 1, tokens)
     }
@@ -106,7 +108,8 @@ impl<F: for<'b> Fn(&'b [Token]) -> Result<(Items<Stmt>, &'b [Token]), ParseError
         requires calls { F.IsAlwaysCallable self.now.statement }
         requires answers { AnswersStatements (F.post self.now.statement) self.now.turns (self.now.budget - 1) }
         requires small { self.now.budget < HEIGHT_LIMIT }
-        ensures { Gives (λ x. (x.0, x.1.now)) result (suite_at (statements_at self.now.turns (self.now.budget - 1)) self.now.turns [] tokens.now) }
+        ensures { Gives (λ x. (x.0, x.1.now)) result
+            (suite_at (statements_at self.now.turns (self.now.budget - 1)) self.now.turns [] tokens.now) }
     {
         let mut found = Items::new(self.alloc);
         let mut more = tokens;
@@ -162,7 +165,9 @@ impl<F: for<'b> Fn(&'b [Token]) -> Result<(Items<Stmt>, &'b [Token]), ParseError
         requires calls { F.IsAlwaysCallable self.now.statement }
         requires answers { AnswersStatements (F.post self.now.statement) self.now.turns (self.now.budget - 1) }
         requires small { self.now.budget < HEIGHT_LIMIT }
-        ensures { Gives (λ x. (x.0, x.1.now)) result (arm_at (readers self.now.turns self.now.budget) (inner_block self.now.turns self.now.budget) line tokens.now) }
+        ensures { Gives (λ x. (x.0, x.1.now)) result
+            (arm_at (readers self.now.turns self.now.budget) (inner_block self.now.turns self.now.budget)
+            line tokens.now) }
     {
         let (test, more) = self.read(TEST, tokens)?;
         let (body, more) = self.body(more)?;
@@ -176,7 +181,9 @@ impl<F: for<'b> Fn(&'b [Token]) -> Result<(Items<Stmt>, &'b [Token]), ParseError
         requires calls { F.IsAlwaysCallable self.now.statement }
         requires answers { AnswersStatements (F.post self.now.statement) self.now.turns (self.now.budget - 1) }
         requires small { self.now.budget < HEIGHT_LIMIT }
-        ensures { Gives (λ x. (x.0, x.1.now)) result (elifs_at (readers self.now.turns self.now.budget) (inner_block self.now.turns self.now.budget) self.now.turns (first ∷ []) tokens.now) }
+        ensures { Gives (λ x. (x.0, x.1.now)) result
+            (elifs_at (readers self.now.turns self.now.budget) (inner_block self.now.turns self.now.budget)
+            self.now.turns (first ∷ []) tokens.now) }
     {
         let mut found = Items::new(self.alloc);
         found.push(first)?;
@@ -198,7 +205,8 @@ impl<F: for<'b> Fn(&'b [Token]) -> Result<(Items<Stmt>, &'b [Token]), ParseError
         requires calls { F.IsAlwaysCallable self.now.statement }
         requires answers { AnswersStatements (F.post self.now.statement) self.now.turns (self.now.budget - 1) }
         requires small { self.now.budget < HEIGHT_LIMIT }
-        ensures { Gives (λ x. (x.0, x.1.now)) result (clause_at word (inner_block self.now.turns self.now.budget) tokens.now) }
+        ensures { Gives (λ x. (x.0, x.1.now)) result
+            (clause_at word (inner_block self.now.turns self.now.budget) tokens.now) }
     {
         if !keyword_next(tokens, word) {
             return Ok((None, tokens));
@@ -214,7 +222,9 @@ impl<F: for<'b> Fn(&'b [Token]) -> Result<(Items<Stmt>, &'b [Token]), ParseError
         requires calls { F.IsAlwaysCallable self.now.statement }
         requires answers { AnswersStatements (F.post self.now.statement) self.now.turns (self.now.budget - 1) }
         requires small { self.now.budget < HEIGHT_LIMIT }
-        ensures { Gives (λ x. (x.0, x.1.now)) result (handler_at (readers self.now.turns self.now.budget) (inner_block self.now.turns self.now.budget) line tokens.now) }
+        ensures { Gives (λ x. (x.0, x.1.now)) result
+            (handler_at (readers self.now.turns self.now.budget) (inner_block self.now.turns self.now.budget)
+            line tokens.now) }
     {
         let ((test, target), more) = caught(self.alloc, self.turns, self.budget, tokens)?;
         let (body, more) = self.body(more)?;
@@ -233,7 +243,9 @@ impl<F: for<'b> Fn(&'b [Token]) -> Result<(Items<Stmt>, &'b [Token]), ParseError
         requires calls { F.IsAlwaysCallable self.now.statement }
         requires answers { AnswersStatements (F.post self.now.statement) self.now.turns (self.now.budget - 1) }
         requires small { self.now.budget < HEIGHT_LIMIT }
-        ensures { Gives (λ x. (x.0, x.1.now)) result (handlers_at (readers self.now.turns self.now.budget) (inner_block self.now.turns self.now.budget) self.now.turns [] tokens.now) }
+        ensures { Gives (λ x. (x.0, x.1.now)) result
+            (handlers_at (readers self.now.turns self.now.budget) (inner_block self.now.turns self.now.budget)
+            self.now.turns [] tokens.now) }
     {
         let mut found = Items::new(self.alloc);
         let mut more = tokens;
@@ -258,7 +270,9 @@ impl<F: for<'b> Fn(&'b [Token]) -> Result<(Items<Stmt>, &'b [Token]), ParseError
         requires calls { F.IsAlwaysCallable self.now.statement }
         requires answers { AnswersStatements (F.post self.now.statement) self.now.turns (self.now.budget - 1) }
         requires small { self.now.budget < HEIGHT_LIMIT }
-        ensures { Gives (λ x. (x.0, x.1.now)) result (try_at (readers self.now.turns self.now.budget) (inner_block self.now.turns self.now.budget) self.now.turns first tokens.now) }
+        ensures { Gives (λ x. (x.0, x.1.now)) result
+            (try_at (readers self.now.turns self.now.budget) (inner_block self.now.turns self.now.budget)
+            self.now.turns first tokens.now) }
     {
         if keyword_next(tokens, keyword::EXCEPT) {
             let (handlers, more) = self.handlers(tokens)?;
@@ -279,7 +293,9 @@ impl<F: for<'b> Fn(&'b [Token]) -> Result<(Items<Stmt>, &'b [Token]), ParseError
         requires calls { F.IsAlwaysCallable self.now.statement }
         requires answers { AnswersStatements (F.post self.now.statement) self.now.turns (self.now.budget - 1) }
         requires small { self.now.budget < HEIGHT_LIMIT }
-        ensures { Gives (λ x. (x.0, x.1.now)) result (tried_at (readers self.now.turns self.now.budget) (inner_block self.now.turns self.now.budget) self.now.turns tokens.now) }
+        ensures { Gives (λ x. (x.0, x.1.now)) result
+            (tried_at (readers self.now.turns self.now.budget) (inner_block self.now.turns self.now.budget)
+            self.now.turns tokens.now) }
     {
         let line = line_of(tokens);
         let (body, more) = self.body(rest(tokens))?;
@@ -292,7 +308,9 @@ impl<F: for<'b> Fn(&'b [Token]) -> Result<(Items<Stmt>, &'b [Token]), ParseError
         requires calls { F.IsAlwaysCallable self.now.statement }
         requires answers { AnswersStatements (F.post self.now.statement) self.now.turns (self.now.budget - 1) }
         requires small { self.now.budget < HEIGHT_LIMIT }
-        ensures { Gives (λ x. (x.0, x.1.now)) result (def_at (readers self.now.turns self.now.budget) (inner_block self.now.turns self.now.budget) self.now.turns line tokens.now) }
+        ensures { Gives (λ x. (x.0, x.1.now)) result
+            (def_at (readers self.now.turns self.now.budget) (inner_block self.now.turns self.now.budget)
+            self.now.turns line tokens.now) }
     {
         let (name, more) = take_name(self.alloc, tokens)?;
         let more = take_op(more, operator::OPEN_ROUND)?;
@@ -308,7 +326,9 @@ impl<F: for<'b> Fn(&'b [Token]) -> Result<(Items<Stmt>, &'b [Token]), ParseError
         requires calls { F.IsAlwaysCallable self.now.statement }
         requires answers { AnswersStatements (F.post self.now.statement) self.now.turns (self.now.budget - 1) }
         requires small { self.now.budget < HEIGHT_LIMIT }
-        ensures { Gives (λ x. (x.0, x.1.now)) result (class_at (readers self.now.turns self.now.budget) (inner_block self.now.turns self.now.budget) line tokens.now) }
+        ensures { Gives (λ x. (x.0, x.1.now)) result
+            (class_at (readers self.now.turns self.now.budget) (inner_block self.now.turns self.now.budget)
+            line tokens.now) }
     {
         let (name, more) = take_name(self.alloc, tokens)?;
         let (base, more) = base(self.alloc, self.turns, self.budget, more)?;
@@ -321,7 +341,9 @@ impl<F: for<'b> Fn(&'b [Token]) -> Result<(Items<Stmt>, &'b [Token]), ParseError
         requires calls { F.IsAlwaysCallable self.now.statement }
         requires answers { AnswersStatements (F.post self.now.statement) self.now.turns (self.now.budget - 1) }
         requires small { self.now.budget < HEIGHT_LIMIT }
-        ensures { Gives (λ x. (x.0, x.1.now)) result (if_at (readers self.now.turns self.now.budget) (inner_block self.now.turns self.now.budget) self.now.turns tokens.now) }
+        ensures { Gives (λ x. (x.0, x.1.now)) result
+            (if_at (readers self.now.turns self.now.budget) (inner_block self.now.turns self.now.budget)
+            self.now.turns tokens.now) }
     {
         let (first, more) = self.arm(line_of(tokens), rest(tokens))?;
         let (arms, more) = self.elifs(first, more)?;
@@ -334,7 +356,9 @@ impl<F: for<'b> Fn(&'b [Token]) -> Result<(Items<Stmt>, &'b [Token]), ParseError
         requires calls { F.IsAlwaysCallable self.now.statement }
         requires answers { AnswersStatements (F.post self.now.statement) self.now.turns (self.now.budget - 1) }
         requires small { self.now.budget < HEIGHT_LIMIT }
-        ensures { Gives (λ x. (x.0, x.1.now)) result (while_at (readers self.now.turns self.now.budget) (inner_block self.now.turns self.now.budget) tokens.now) }
+        ensures { Gives (λ x. (x.0, x.1.now)) result
+            (while_at (readers self.now.turns self.now.budget) (inner_block self.now.turns self.now.budget)
+            tokens.now) }
     {
         let (arm, more) = self.arm(line_of(tokens), rest(tokens))?;
         let (otherwise, more) = self.clause(keyword::ELSE, more)?;
@@ -346,7 +370,8 @@ impl<F: for<'b> Fn(&'b [Token]) -> Result<(Items<Stmt>, &'b [Token]), ParseError
         requires calls { F.IsAlwaysCallable self.now.statement }
         requires answers { AnswersStatements (F.post self.now.statement) self.now.turns (self.now.budget - 1) }
         requires small { self.now.budget < HEIGHT_LIMIT }
-        ensures { Gives (λ x. (x.0, x.1.now)) result (for_at (parts_of self.now.turns self.now.budget) self.now.turns tokens.now) }
+        ensures { Gives (λ x. (x.0, x.1.now)) result
+            (for_at (parts_of self.now.turns self.now.budget) self.now.turns tokens.now) }
     {
         let (target, more) = loop_target(self.alloc, self.turns, self.budget, rest(tokens))?;
         let more = take_keyword(more, keyword::IN)?;
@@ -365,7 +390,8 @@ impl<F: for<'b> Fn(&'b [Token]) -> Result<(Items<Stmt>, &'b [Token]), ParseError
         requires calls { F.IsAlwaysCallable self.now.statement }
         requires answers { AnswersStatements (F.post self.now.statement) self.now.turns (self.now.budget - 1) }
         requires small { self.now.budget < HEIGHT_LIMIT }
-        ensures { Gives (λ x. (x.0, x.1.now)) result (compound_at (parts_of self.now.turns self.now.budget) self.now.turns word tokens.now) }
+        ensures { Gives (λ x. (x.0, x.1.now)) result
+            (compound_at (parts_of self.now.turns self.now.budget) self.now.turns word tokens.now) }
     {
         match word {
             keyword::IF => self.choose(tokens),
@@ -382,7 +408,8 @@ impl<F: for<'b> Fn(&'b [Token]) -> Result<(Items<Stmt>, &'b [Token]), ParseError
         requires calls { F.IsAlwaysCallable self.now.statement }
         requires answers { AnswersStatements (F.post self.now.statement) self.now.turns (self.now.budget - 1) }
         requires small { self.now.budget < HEIGHT_LIMIT }
-        ensures { Gives (λ x. (x.0, x.1.now)) result (alone_at (parts_of self.now.turns self.now.budget) self.now.turns (self.now.budget + 1) word tokens.now) }
+        ensures { Gives (λ x. (x.0, x.1.now)) result
+            (alone_at (parts_of self.now.turns self.now.budget) self.now.turns (self.now.budget + 1) word tokens.now) }
     {
         if self.budget < 2 {
             return refused(tokens, Fault::Deep);
@@ -398,7 +425,9 @@ impl<F: for<'b> Fn(&'b [Token]) -> Result<(Items<Stmt>, &'b [Token]), ParseError
         requires calls { F.IsAlwaysCallable self.now.statement }
         requires answers { AnswersStatements (F.post self.now.statement) self.now.turns (self.now.budget - 1) }
         requires small { self.now.budget < HEIGHT_LIMIT }
-        ensures { Gives (λ x. (x.0, x.1.now)) result (statement_by (parts_of self.now.turns self.now.budget) self.now.turns (self.now.budget + 1) (k.Keyword word) tokens.now) }
+        ensures { Gives (λ x. (x.0, x.1.now)) result
+            (statement_by (parts_of self.now.turns self.now.budget)
+            self.now.turns (self.now.budget + 1) (k.Keyword word) tokens.now) }
     {
         if word == keyword::WITH {
             return refused(tokens, Fault::LeftOut(Construct::With));
@@ -415,7 +444,8 @@ impl<F: for<'b> Fn(&'b [Token]) -> Result<(Items<Stmt>, &'b [Token]), ParseError
         requires calls { F.IsAlwaysCallable self.now.statement }
         requires answers { AnswersStatements (F.post self.now.statement) self.now.turns (self.now.budget - 1) }
         requires small { self.now.budget < HEIGHT_LIMIT }
-        ensures { Gives (λ x. (x.0, x.1.now)) result (statement_at (parts_of self.now.turns self.now.budget) self.now.turns (self.now.budget + 1) tokens.now) }
+        ensures { Gives (λ x. (x.0, x.1.now)) result
+            (statement_at (parts_of self.now.turns self.now.budget) self.now.turns (self.now.budget + 1) tokens.now) }
     {
         let Some((token, _)) = split(tokens) else {
             return self.simple(tokens);

@@ -85,7 +85,8 @@ pub fn expression<'a>(
         |request, tokens|
             requires above { 0 < budget }
             requires small { budget ≤ HEIGHT_LIMIT }
-            ensures value { Gives (λ x. (x.0, x.1.now)) result (requested (reads turns (budget - 1)) request tokens.now) }
+            ensures value { Gives (λ x. (x.0, x.1.now)) result
+                (requested (reads turns (budget - 1)) request tokens.now) }
             ensures fits { IfOk result (λ x. x.0.tall ≤ max (budget - 1) (held request)) }
         { expression(alloc, turns, budget - 1, request, tokens) },
         request,
@@ -108,7 +109,8 @@ fn tests_by<
     requires calls { F.IsAlwaysCallable inner }
     requires answers { Answers (F.post inner) turns budget }
     requires low { first.tall ≤ budget }
-    ensures value { Gives (λ x. (x.0, x.1.now)) result (tests_at ((reads turns budget).read TEST) turns (start first) tokens.now) }
+    ensures value { Gives (λ x. (x.0, x.1.now)) result
+        (tests_at ((reads turns budget).read TEST) turns (start first) tokens.now) }
 {
     let reader = Reader {
         alloc,
@@ -129,7 +131,8 @@ pub fn tests<'a>(
 ) -> Read<'a, (Tall<Items<Expr>>, bool)>
     requires small { budget ≤ HEIGHT_LIMIT }
     requires low { first.tall ≤ budget }
-    ensures value { Gives (λ x. (x.0, x.1.now)) result (tests_at ((reads turns budget).read TEST) turns (start first) tokens.now) }
+    ensures value { Gives (λ x. (x.0, x.1.now)) result
+        (tests_at ((reads turns budget).read TEST) turns (start first) tokens.now) }
 {
     tests_by(
         alloc,

@@ -64,7 +64,8 @@ fn grown_by<
     requires answers { Answers (F.post inner) turns budget }
     requires small { budget < HEIGHT_LIMIT }
     requires low { operand.tall ≤ budget + 1 }
-    ensures value { Gives (λ x. (x.0, x.1.now)) result (grown_at (reads turns budget) turns (budget + 1) RUNGS (operand, tokens.now)) }
+    ensures value { Gives (λ x. (x.0, x.1.now)) result
+        (grown_at (reads turns budget) turns (budget + 1) RUNGS (operand, tokens.now)) }
     ensures fits { IfOk result (λ x. x.0.tall ≤ budget + 1) }
 {
     let reader = Reader {
@@ -86,7 +87,8 @@ fn grown<'a>(
 ) -> Read<'a, Tall<Expr>>
     requires small { budget < HEIGHT_LIMIT }
     requires low { operand.tall ≤ budget + 1 }
-    ensures value { Gives (λ x. (x.0, x.1.now)) result (grown_at (reads turns budget) turns (budget + 1) RUNGS (operand, tokens.now)) }
+    ensures value { Gives (λ x. (x.0, x.1.now)) result
+        (grown_at (reads turns budget) turns (budget + 1) RUNGS (operand, tokens.now)) }
     ensures fits { IfOk result (λ x. x.0.tall ≤ budget + 1) }
 {
     grown_by(
@@ -142,7 +144,8 @@ fn trailed_by<
     requires answers { Answers (F.post inner) turns budget }
     requires small { budget < HEIGHT_LIMIT }
     requires low { atom.tall ≤ budget + 1 }
-    ensures value { Gives (λ x. (x.0, x.1.now)) result (trail_at (reads turns budget) turns (budget + 1) (atom, tokens.now)) }
+    ensures value { Gives (λ x. (x.0, x.1.now)) result
+        (trail_at (reads turns budget) turns (budget + 1) (atom, tokens.now)) }
     ensures fits { IfOk result (λ x. x.0.tall ≤ budget + 1) }
 {
     let reader = Reader {
@@ -164,7 +167,8 @@ pub fn trailed<'a>(
 ) -> Read<'a, Tall<Expr>>
     requires small { budget < HEIGHT_LIMIT }
     requires low { atom.tall ≤ budget + 1 }
-    ensures value { Gives (λ x. (x.0, x.1.now)) result (trail_at (reads turns budget) turns (budget + 1) (atom, tokens.now)) }
+    ensures value { Gives (λ x. (x.0, x.1.now)) result
+        (trail_at (reads turns budget) turns (budget + 1) (atom, tokens.now)) }
     ensures fits { IfOk result (λ x. x.0.tall ≤ budget + 1) }
 {
     trailed_by(

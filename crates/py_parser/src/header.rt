@@ -153,7 +153,8 @@ fn loop_targets<'a>(
 ) -> Read<'a, Tall<Items<Expr>>>
     requires small { budget ≤ HEIGHT_LIMIT }
     requires low { first.tall ≤ budget }
-    ensures value { Gives (λ x. (x.0, x.1.now)) result (loops_at (readers turns budget) turns (start first) tokens.now) }
+    ensures value { Gives (λ x. (x.0, x.1.now)) result
+        (loops_at (readers turns budget) turns (start first) tokens.now) }
     ensures fits { IfOk result (λ x. x.0.tall ≤ budget) }
 {
     let mut found = start(alloc, first)?;
@@ -182,7 +183,8 @@ pub fn loop_target<'a>(
     tokens: &'a [Token],
 ) -> Read<'a, Tall<Expr>>
     requires { budget < HEIGHT_LIMIT }
-    ensures { Gives (λ x. (x.0, x.1.now)) result (loop_at (readers turns budget) (readers turns (budget - 1)) budget turns tokens.now) }
+    ensures { Gives (λ x. (x.0, x.1.now)) result
+        (loop_at (readers turns budget) (readers turns (budget - 1)) budget turns tokens.now) }
 {
     let (first, more) = target(alloc, turns, budget, TargetPlace::For, tokens)?;
     if !op_next(more, operator::COMMA) {

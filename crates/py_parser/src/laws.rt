@@ -17,9 +17,15 @@ ghost use Rattle.py_parser.specs.Words.{line_of};
 /// wherever there is one, and else refuses the first token with which no such module begins. It refuses the tokens so
 /// where and only where they are refused so, and a list of tokens has one module at most.
 pub fn grammar_law()
-    ensures found { (ts : List Token) (m : Module) (rest : List Token) → EndsOnce ts → module_at (length ts) ts ≡ Ok (m, rest) → IsModule m ts × (tall_module m ≤ 100) }
-    ensures only { (ts : List Token) (m : Module) → IsModule m ts → tall_module m ≤ 100 → module_at (length ts) ts ≡ Ok (m, []) }
-    ensures refused { (ts : List Token) (f : Fault) (rest : List Token) → EndsOnce ts → module_at (length ts) ts ≡ Err (f, rest) → RefusedAt ts f (line_of rest) }
+    ensures found { (ts : List Token) (m : Module) (rest : List Token)
+        → EndsOnce ts → module_at (length ts) ts ≡ Ok (m, rest)
+        → IsModule m ts × (tall_module m ≤ 100) }
+    ensures only { (ts : List Token) (m : Module)
+        → IsModule m ts → tall_module m ≤ 100
+        → module_at (length ts) ts ≡ Ok (m, []) }
+    ensures refused { (ts : List Token) (f : Fault) (rest : List Token)
+        → EndsOnce ts → module_at (length ts) ts ≡ Err (f, rest)
+        → RefusedAt ts f (line_of rest) }
     ensures stops { (ts : List Token) (f : Fault) (line : ℕ) → EndsOnce ts → RefusedAt ts f line →
         (rest : List Token) × (module_at (length ts) ts ≡ Err (f, rest)) × (line ≡ line_of rest) }
     ensures one { (ts : List Token) (m n : Module) → IsModule m ts → IsModule n ts → m ≡ n }
@@ -34,5 +40,7 @@ pub fn ends_law()
 
 /// The canonical text of a module that is the tree of some text has tokens, and these have this module again.
 pub fn canonical_law()
-    ensures { (text : List ℕ) (ts : List Token) (m : Module) → All (λ b. b < 256) text → tokens_of_text text ≡ Ok ts → IsModule m ts → (us : List Token) × (tokens_of_text (module_text m) ≡ Ok us) × IsModule m us }
+    ensures { (text : List ℕ) (ts : List Token) (m : Module)
+        → All (λ b. b < 256) text → tokens_of_text text ≡ Ok ts → IsModule m ts
+        → (us : List Token) × (tokens_of_text (module_text m) ≡ Ok us) × IsModule m us }
 {}

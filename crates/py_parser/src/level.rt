@@ -49,7 +49,8 @@ impl<F: for<'b> Fn(Request, &'b [Token]) -> Result<(Tall<Expr>, &'b [Token]), Pa
         requires answers { Answers (F.post self.now.inner) self.now.turns self.now.budget }
         requires small { self.now.budget < HEIGHT_LIMIT }
         requires low { base.tall ≤ self.now.budget + 1 }
-        ensures value { Gives (λ x. (x.0, x.1.now)) result (power_at (reads self.now.turns self.now.budget) (self.now.budget + 1) (base, tokens.now)) }
+        ensures value { Gives (λ x. (x.0, x.1.now)) result
+            (power_at (reads self.now.turns self.now.budget) (self.now.budget + 1) (base, tokens.now)) }
         ensures fits { IfOk result (λ x. x.0.tall ≤ self.now.budget + 1) }
     {
         if !op_next(tokens, operator::POWER) {
@@ -67,7 +68,8 @@ impl<F: for<'b> Fn(Request, &'b [Token]) -> Result<(Tall<Expr>, &'b [Token]), Pa
         requires calls { F.IsAlwaysCallable self.now.inner }
         requires answers { Answers (F.post self.now.inner) self.now.turns self.now.budget }
         requires small { self.now.budget < HEIGHT_LIMIT }
-        ensures value { Gives (λ x. (x.0, x.1.now)) result (signed_at (reads self.now.turns self.now.budget) (self.now.budget + 1) sign tokens.now) }
+        ensures value { Gives (λ x. (x.0, x.1.now)) result
+            (signed_at (reads self.now.turns self.now.budget) (self.now.budget + 1) sign tokens.now) }
         ensures fits { IfOk result (λ x. x.0.tall ≤ self.now.budget + 1) }
     {
         if self.is_lowest() {
@@ -82,7 +84,9 @@ impl<F: for<'b> Fn(Request, &'b [Token]) -> Result<(Tall<Expr>, &'b [Token]), Pa
     fn links<'a>(&self, level: Level, tokens: &'a [Token]) -> Read<'a, Tall<Items<Link>>>
         requires calls { F.IsAlwaysCallable self.now.inner }
         requires answers { Answers (F.post self.now.inner) self.now.turns self.now.budget }
-        ensures value { Gives (λ x. (x.0, x.1.now)) result (links_at level ((reads self.now.turns self.now.budget).read (below level)) self.now.turns (plain [] 0) tokens.now) }
+        ensures value { Gives (λ x. (x.0, x.1.now)) result
+            (links_at level ((reads self.now.turns self.now.budget).read (below level))
+            self.now.turns (plain [] 0) tokens.now) }
         ensures fits { IfOk result (λ x. x.0.tall ≤ self.now.budget) }
     {
         let mut found = plain(Items::new(self.alloc), 0);
@@ -111,7 +115,9 @@ impl<F: for<'b> Fn(Request, &'b [Token]) -> Result<(Tall<Expr>, &'b [Token]), Pa
         requires answers { Answers (F.post self.now.inner) self.now.turns self.now.budget }
         requires small { self.now.budget < HEIGHT_LIMIT }
         requires low { first.tall ≤ self.now.budget + 1 }
-        ensures value { Gives (λ x. (x.0, x.1.now)) result (chain_at level ((reads self.now.turns self.now.budget).read (below level)) self.now.turns (self.now.budget + 1) (first, tokens.now)) }
+        ensures value { Gives (λ x. (x.0, x.1.now)) result
+            (chain_at level ((reads self.now.turns self.now.budget).read (below level))
+            self.now.turns (self.now.budget + 1) (first, tokens.now)) }
         ensures fits { IfOk result (λ x. x.0.tall ≤ self.now.budget + 1) }
     {
         let None = operator_next(level, tokens) else {
@@ -129,7 +135,8 @@ impl<F: for<'b> Fn(Request, &'b [Token]) -> Result<(Tall<Expr>, &'b [Token]), Pa
         requires calls { F.IsAlwaysCallable self.now.inner }
         requires answers { Answers (F.post self.now.inner) self.now.turns self.now.budget }
         requires small { self.now.budget < HEIGHT_LIMIT }
-        ensures value { Gives (λ x. (x.0, x.1.now)) result (negated_at (reads self.now.turns self.now.budget) (self.now.budget + 1) tokens.now) }
+        ensures value { Gives (λ x. (x.0, x.1.now)) result
+            (negated_at (reads self.now.turns self.now.budget) (self.now.budget + 1) tokens.now) }
         ensures fits { IfOk result (λ x. x.0.tall ≤ self.now.budget + 1) }
     {
         if self.is_lowest() {
@@ -146,7 +153,8 @@ impl<F: for<'b> Fn(Request, &'b [Token]) -> Result<(Tall<Expr>, &'b [Token]), Pa
         requires answers { Answers (F.post self.now.inner) self.now.turns self.now.budget }
         requires small { self.now.budget < HEIGHT_LIMIT }
         requires low { value.tall ≤ self.now.budget + 1 }
-        ensures value { Gives (λ x. (x.0, x.1.now)) result (choice_at (reads self.now.turns self.now.budget) (self.now.budget + 1) (value, tokens.now)) }
+        ensures value { Gives (λ x. (x.0, x.1.now)) result
+            (choice_at (reads self.now.turns self.now.budget) (self.now.budget + 1) (value, tokens.now)) }
         ensures fits { IfOk result (λ x. x.0.tall ≤ self.now.budget + 1) }
     {
         if !keyword_next(tokens, keyword::IF) {
@@ -167,7 +175,8 @@ impl<F: for<'b> Fn(Request, &'b [Token]) -> Result<(Tall<Expr>, &'b [Token]), Pa
         requires calls { F.IsAlwaysCallable self.now.inner }
         requires answers { Answers (F.post self.now.inner) self.now.turns self.now.budget }
         requires small { self.now.budget < HEIGHT_LIMIT }
-        ensures value { Gives (λ x. (x.0, x.1.now)) result (after_at (reads self.now.turns self.now.budget) self.now.turns (self.now.budget + 1) test tokens.now) }
+        ensures value { Gives (λ x. (x.0, x.1.now)) result
+            (after_at (reads self.now.turns self.now.budget) self.now.turns (self.now.budget + 1) test tokens.now) }
         ensures fits { IfOk result (λ x. x.0.tall ≤ max (self.now.budget + 1) test.tall) }
     {
         if !op_next(tokens, operator::COMMA) {
@@ -186,7 +195,8 @@ impl<F: for<'b> Fn(Request, &'b [Token]) -> Result<(Tall<Expr>, &'b [Token]), Pa
         requires calls { F.IsAlwaysCallable self.now.inner }
         requires answers { Answers (F.post self.now.inner) self.now.turns self.now.budget }
         requires small { self.now.budget < HEIGHT_LIMIT }
-        ensures value { Gives (λ x. (x.0, x.1.now)) result (level_at (reads self.now.turns self.now.budget) self.now.turns (self.now.budget + 1) level tokens.now) }
+        ensures value { Gives (λ x. (x.0, x.1.now)) result
+            (level_at (reads self.now.turns self.now.budget) self.now.turns (self.now.budget + 1) level tokens.now) }
         ensures fits { IfOk result (λ x. x.0.tall ≤ self.now.budget + 1) }
     {
         if level == 0 {
@@ -240,7 +250,9 @@ impl<F: for<'b> Fn(Request, &'b [Token]) -> Result<(Tall<Expr>, &'b [Token]), Pa
         requires answers { Answers (F.post self.now.inner) self.now.turns self.now.budget }
         requires small { self.now.budget < HEIGHT_LIMIT }
         requires low { operand.tall ≤ self.now.budget + 1 }
-        ensures value { Gives (λ x. (x.0, x.1.now)) result (after_rung rung (reads self.now.turns self.now.budget) self.now.turns (self.now.budget + 1) (operand, tokens.now)) }
+        ensures value { Gives (λ x. (x.0, x.1.now)) result
+            (after_rung rung (reads self.now.turns self.now.budget)
+            self.now.turns (self.now.budget + 1) (operand, tokens.now)) }
         ensures fits { IfOk result (λ x. x.0.tall ≤ self.now.budget + 1) }
     {
         match rung {
@@ -263,7 +275,9 @@ impl<F: for<'b> Fn(Request, &'b [Token]) -> Result<(Tall<Expr>, &'b [Token]), Pa
         requires answers { Answers (F.post self.now.inner) self.now.turns self.now.budget }
         requires small { self.now.budget < HEIGHT_LIMIT }
         requires low { operand.tall ≤ self.now.budget + 1 }
-        ensures value { Gives (λ x. (x.0, x.1.now)) result (grown_at (reads self.now.turns self.now.budget) self.now.turns (self.now.budget + 1) rungs (operand, tokens.now)) }
+        ensures value { Gives (λ x. (x.0, x.1.now)) result
+            (grown_at (reads self.now.turns self.now.budget)
+            self.now.turns (self.now.budget + 1) rungs (operand, tokens.now)) }
         ensures fits { IfOk result (λ x. x.0.tall ≤ self.now.budget + 1) }
     {
         if rungs == 0 {

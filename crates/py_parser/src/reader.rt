@@ -40,7 +40,8 @@ impl<F: for<'b> Fn(Request, &'b [Token]) -> Result<(Tall<Expr>, &'b [Token]), Pa
     pub fn read<'a>(&self, level: u8, tokens: &'a [Token]) -> Read<'a, Tall<Expr>>
         requires calls { F.IsAlwaysCallable self.now.inner }
         requires answers { Answers (F.post self.now.inner) self.now.turns self.now.budget }
-        ensures value { Gives (λ x. (x.0, x.1.now)) result ((reads self.now.turns self.now.budget).read level tokens.now) }
+        ensures value { Gives (λ x. (x.0, x.1.now)) result
+            ((reads self.now.turns self.now.budget).read level tokens.now) }
         ensures fits { IfOk result (λ x. x.0.tall ≤ self.now.budget) }
     {
         (self.inner)(Request::Level(level), tokens)
@@ -51,7 +52,8 @@ impl<F: for<'b> Fn(Request, &'b [Token]) -> Result<(Tall<Expr>, &'b [Token]), Pa
         requires calls { F.IsAlwaysCallable self.now.inner }
         requires answers { Answers (F.post self.now.inner) self.now.turns self.now.budget }
         requires low { test.tall ≤ self.now.budget }
-        ensures value { Gives (λ x. (x.0, x.1.now)) result ((reads self.now.turns self.now.budget).after test tokens.now) }
+        ensures value { Gives (λ x. (x.0, x.1.now)) result
+            ((reads self.now.turns self.now.budget).after test tokens.now) }
         ensures fits { IfOk result (λ x. x.0.tall ≤ self.now.budget) }
     {
         (self.inner)(Request::After(test), tokens)
@@ -74,7 +76,8 @@ impl<F: for<'b> Fn(Request, &'b [Token]) -> Result<(Tall<Expr>, &'b [Token]), Pa
         requires calls { F.IsAlwaysCallable self.now.inner }
         requires answers { Answers (F.post self.now.inner) self.now.turns self.now.budget }
         requires low { first.tall ≤ self.now.budget }
-        ensures value { Gives (λ x. (x.0, x.1.now)) result (tests_at ((reads self.now.turns self.now.budget).read TEST) self.now.turns (start first) tokens.now) }
+        ensures value { Gives (λ x. (x.0, x.1.now)) result
+            (tests_at ((reads self.now.turns self.now.budget).read TEST) self.now.turns (start first) tokens.now) }
         ensures fits { IfOk result (λ x. x.0.0.tall ≤ self.now.budget) }
     {
         let mut found = start(self.alloc, first)?;

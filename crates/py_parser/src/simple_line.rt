@@ -37,7 +37,8 @@ fn line_more<'a>(
 ) -> Read<'a, Items<Stmt>>
     requires small { budget ≤ HEIGHT_LIMIT }
     requires above { 0 < budget }
-    ensures value { Gives (λ x. (x.0, x.1.now)) result (line_more (simple_at (readers turns (budget - 1)) turns budget) turns (first ∷ []) tokens.now) }
+    ensures value { Gives (λ x. (x.0, x.1.now)) result
+        (line_more (simple_at (readers turns (budget - 1)) turns budget) turns (first ∷ []) tokens.now) }
 {
     let mut found = Items::new(alloc);
     found.push(first)?;

@@ -223,7 +223,9 @@ fn worded<'a>(
 ) -> Read<'a, Stmt>
     requires small { budget ≤ HEIGHT_LIMIT }
     requires above { 0 < budget }
-    ensures { Gives (λ x. (x.0, x.1.now)) result (worded_at (readers turns (budget - 1)) turns budget word (running_at (readers turns (budget - 1)) turns) tokens.now) }
+    ensures { Gives (λ x. (x.0, x.1.now)) result
+        (worded_at (readers turns (budget - 1))
+        turns budget word (running_at (readers turns (budget - 1)) turns) tokens.now) }
 {
     let under = budget - 1;
     let line = line_of(tokens);

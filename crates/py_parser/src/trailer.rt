@@ -57,7 +57,8 @@ fn name_next(tokens: &[Token]) -> Option<&Bytes>
 
 /// The name of an argument by keyword, where a test of this form was read from these tokens, and is followed by `=`.
 fn keyed<'a>(form: Form, word: &'a [Token], next: &[Token]) -> Option<&'a Bytes>
-    ensures { MatchOption result (keyed form (first word.now) (first next.now) ≡ None) (λ n. keyed form (first word.now) (first next.now) ≡ Some n.now) }
+    ensures { MatchOption result (keyed form (first word.now) (first next.now) ≡ None)
+        (λ n. keyed form (first word.now) (first next.now) ≡ Some n.now) }
 {
     if is_bare(form) && op_next(next, operator::ASSIGN) {
         name_next(word)
@@ -98,7 +99,9 @@ impl<F: for<'b> Fn(Request, &'b [Token]) -> Result<(Tall<Expr>, &'b [Token]), Pa
         requires calls { F.IsAlwaysCallable self.now.inner }
         requires answers { Answers (F.post self.now.inner) self.now.turns self.now.budget }
         requires low { value.tall ≤ self.now.budget }
-        ensures value { Gives (λ x. (x.0, x.1.now)) result (named_at ((reads self.now.turns self.now.budget).read TEST) most (push_named (plain [] 0) name value) tokens.now) }
+        ensures value { Gives (λ x. (x.0, x.1.now)) result
+            (named_at ((reads self.now.turns self.now.budget).read TEST)
+            most (push_named (plain [] 0) name value) tokens.now) }
         ensures fits { IfOk result (λ x. x.0.tall ≤ self.now.budget) }
     {
         let mut found = plain(Items::new(self.alloc), 0);
@@ -135,7 +138,8 @@ impl<F: for<'b> Fn(Request, &'b [Token]) -> Result<(Tall<Expr>, &'b [Token]), Pa
         requires calls { F.IsAlwaysCallable self.now.inner }
         requires answers { Answers (F.post self.now.inner) self.now.turns self.now.budget }
         requires low { found.tall ≤ self.now.budget }
-        ensures value { Gives (λ x. (x.0, x.1.now)) result (keywords_at ((reads self.now.turns self.now.budget).read TEST) most found name.now tokens.now) }
+        ensures value { Gives (λ x. (x.0, x.1.now)) result
+            (keywords_at ((reads self.now.turns self.now.budget).read TEST) most found name.now tokens.now) }
         ensures fits { IfOk result (λ x. x.0.tall ≤ self.now.budget) }
     {
         let name = name.copy(self.alloc)?;
@@ -149,7 +153,8 @@ impl<F: for<'b> Fn(Request, &'b [Token]) -> Result<(Tall<Expr>, &'b [Token]), Pa
     fn arguments<'a>(&self, tokens: &'a [Token]) -> Read<'a, Tall<Trailer>>
         requires calls { F.IsAlwaysCallable self.now.inner }
         requires answers { Answers (F.post self.now.inner) self.now.turns self.now.budget }
-        ensures value { Gives (λ x. (x.0, x.1.now)) result (args_at ((reads self.now.turns self.now.budget).read TEST) self.now.turns none tokens.now) }
+        ensures value { Gives (λ x. (x.0, x.1.now)) result
+            (args_at ((reads self.now.turns self.now.budget).read TEST) self.now.turns none tokens.now) }
         ensures fits { IfOk result (λ x. x.0.tall ≤ self.now.budget) }
     {
         let mut found = no_tests(self.alloc);
@@ -183,7 +188,8 @@ impl<F: for<'b> Fn(Request, &'b [Token]) -> Result<(Tall<Expr>, &'b [Token]), Pa
         requires calls { F.IsAlwaysCallable self.now.inner }
         requires answers { Answers (F.post self.now.inner) self.now.turns self.now.budget }
         requires low { tall_or from ≤ self.now.budget }
-        ensures value { Gives (λ x. (x.0, x.1.now)) result (slice_at (reads self.now.turns self.now.budget) from tokens.now) }
+        ensures value { Gives (λ x. (x.0, x.1.now)) result
+            (slice_at (reads self.now.turns self.now.budget) from tokens.now) }
         ensures fits { IfOk result (λ x. x.0.tall ≤ self.now.budget) }
     {
         if comes(TEST, tokens) {
@@ -198,7 +204,8 @@ impl<F: for<'b> Fn(Request, &'b [Token]) -> Result<(Tall<Expr>, &'b [Token]), Pa
         requires calls { F.IsAlwaysCallable self.now.inner }
         requires answers { Answers (F.post self.now.inner) self.now.turns self.now.budget }
         requires low { test.tall ≤ self.now.budget }
-        ensures value { Gives (λ x. (x.0, x.1.now)) result (index_close (reads self.now.turns self.now.budget) (test, tokens.now)) }
+        ensures value { Gives (λ x. (x.0, x.1.now)) result
+            (index_close (reads self.now.turns self.now.budget) (test, tokens.now)) }
         ensures fits { IfOk result (λ x. x.0.tall ≤ self.now.budget) }
     {
         if op_next(tokens, operator::COLON) {
@@ -214,7 +221,8 @@ impl<F: for<'b> Fn(Request, &'b [Token]) -> Result<(Tall<Expr>, &'b [Token]), Pa
     fn subscript<'a>(&self, tokens: &'a [Token]) -> Read<'a, Tall<Trailer>>
         requires calls { F.IsAlwaysCallable self.now.inner }
         requires answers { Answers (F.post self.now.inner) self.now.turns self.now.budget }
-        ensures value { Gives (λ x. (x.0, x.1.now)) result (subscript_at (reads self.now.turns self.now.budget) tokens.now) }
+        ensures value { Gives (λ x. (x.0, x.1.now)) result
+            (subscript_at (reads self.now.turns self.now.budget) tokens.now) }
         ensures fits { IfOk result (λ x. x.0.tall ≤ self.now.budget) }
     {
         if op_next(tokens, operator::COLON) {
@@ -229,7 +237,8 @@ impl<F: for<'b> Fn(Request, &'b [Token]) -> Result<(Tall<Expr>, &'b [Token]), Pa
     fn call<'a>(&self, tokens: &'a [Token]) -> Read<'a, Tall<Trailer>>
         requires calls { F.IsAlwaysCallable self.now.inner }
         requires answers { Answers (F.post self.now.inner) self.now.turns self.now.budget }
-        ensures value { Gives (λ x. (x.0, x.1.now)) result (call_at (reads self.now.turns self.now.budget) self.now.turns tokens.now) }
+        ensures value { Gives (λ x. (x.0, x.1.now)) result
+            (call_at (reads self.now.turns self.now.budget) self.now.turns tokens.now) }
         ensures fits { IfOk result (λ x. x.0.tall ≤ self.now.budget) }
     {
         if op_next(tokens, operator::CLOSE_ROUND) {
@@ -246,7 +255,8 @@ impl<F: for<'b> Fn(Request, &'b [Token]) -> Result<(Tall<Expr>, &'b [Token]), Pa
     fn trailer<'a>(&self, tokens: &'a [Token]) -> Read<'a, Tall<Trailer>>
         requires calls { F.IsAlwaysCallable self.now.inner }
         requires answers { Answers (F.post self.now.inner) self.now.turns self.now.budget }
-        ensures value { Gives (λ x. (x.0, x.1.now)) result (trailer_at (reads self.now.turns self.now.budget) self.now.turns tokens.now) }
+        ensures value { Gives (λ x. (x.0, x.1.now)) result
+            (trailer_at (reads self.now.turns self.now.budget) self.now.turns tokens.now) }
         ensures fits { IfOk result (λ x. x.0.tall ≤ self.now.budget) }
     {
         if op_next(tokens, operator::DOT) {
@@ -264,7 +274,8 @@ impl<F: for<'b> Fn(Request, &'b [Token]) -> Result<(Tall<Expr>, &'b [Token]), Pa
     fn trailers<'a>(&self, tokens: &'a [Token]) -> Read<'a, Tall<Items<Trailer>>>
         requires calls { F.IsAlwaysCallable self.now.inner }
         requires answers { Answers (F.post self.now.inner) self.now.turns self.now.budget }
-        ensures value { Gives (λ x. (x.0, x.1.now)) result (trailers_at (reads self.now.turns self.now.budget) self.now.turns self.now.turns (plain [] 0) tokens.now) }
+        ensures value { Gives (λ x. (x.0, x.1.now)) result
+            (trailers_at (reads self.now.turns self.now.budget) self.now.turns self.now.turns (plain [] 0) tokens.now) }
         ensures fits { IfOk result (λ x. x.0.tall ≤ self.now.budget) }
     {
         let mut found = plain(Items::new(self.alloc), 0);
@@ -287,7 +298,8 @@ impl<F: for<'b> Fn(Request, &'b [Token]) -> Result<(Tall<Expr>, &'b [Token]), Pa
         requires answers { Answers (F.post self.now.inner) self.now.turns self.now.budget }
         requires small { self.now.budget < HEIGHT_LIMIT }
         requires low { atom.tall ≤ self.now.budget + 1 }
-        ensures value { Gives (λ x. (x.0, x.1.now)) result (trail_at (reads self.now.turns self.now.budget) self.now.turns (self.now.budget + 1) (atom, tokens.now)) }
+        ensures value { Gives (λ x. (x.0, x.1.now)) result
+            (trail_at (reads self.now.turns self.now.budget) self.now.turns (self.now.budget + 1) (atom, tokens.now)) }
         ensures fits { IfOk result (λ x. x.0.tall ≤ self.now.budget + 1) }
     {
         if !trailer_next(tokens) {

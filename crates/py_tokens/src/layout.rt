@@ -36,7 +36,8 @@ fn dedent(
     place: Place,
     column: usize,
 ) -> Result<(), TokenError>
-    ensures { Moves result (popped place column) (reverse stack.old.items) (reverse stack.new.items) out.old.items out.new.items }
+    ensures { Moves result (popped place column)
+        (reverse stack.old.items) (reverse stack.new.items) out.old.items out.new.items }
 {
     let line = place.line;
     match stack.pop() {
@@ -62,7 +63,8 @@ fn indent(
     place: Place,
     column: usize,
 ) -> Result<(), TokenError>
-    ensures { Moves result (indented place column) (reverse stack.old.items) (reverse stack.new.items) out.old.items out.new.items }
+    ensures { Moves result (indented place column)
+        (reverse stack.old.items) (reverse stack.new.items) out.old.items out.new.items }
 {
     let line = place.line;
     match stack.pop() {
@@ -122,7 +124,8 @@ fn begin_line(
     out: &mut Vec<Token>,
     place: Place,
 ) -> Result<(), TokenError>
-    ensures { Moves result (begun place mode) (reverse stack.old.items) (reverse stack.new.items) out.old.items out.new.items }
+    ensures { Moves result (begun place mode)
+        (reverse stack.old.items) (reverse stack.new.items) out.old.items out.new.items }
 {
     match mode {
         Mode::Fresh(column) => indent(stack, out, place, column),
@@ -139,7 +142,8 @@ fn take(
     t: Token,
     depth: usize,
 ) -> Result<Mode, TokenError>
-    ensures takes { Takes result depth (took t mode) (reverse stack.old.items) (reverse stack.new.items) out.old.items out.new.items }
+    ensures takes { Takes result depth (took t mode)
+        (reverse stack.old.items) (reverse stack.new.items) out.old.items out.new.items }
     ensures reaches { IfOk result (λ m. reach m ≡ depth) }
 {
     begin_line(mode, stack, out, before_token(&t))?;

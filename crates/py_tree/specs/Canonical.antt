@@ -1,5 +1,5 @@
--- The canonical text of a module: its lexemes, in the order of the grammar, as they are written. States
--- `docs/LANGUAGE.md`, "The canonical text".
+-- The canonical text of a module: its lexemes, in the order of the grammar, as they are written.
+-- States `docs/LANGUAGE.md`, "The canonical text".
 -- All words of a simple statement stand on its line, and those of a clause up to its colon on the clause's line.
 use Rattle.std.specs.Prelude.{ℕ, ◌==◌, Bool, true, false, ◌||◌, if◌then◌else◌, List, [], ◌∷◌, ◌++◌, map, Option, Some, None}
 use Rattle.py_tokens.specs.declared.keyword.TheConstants as keyword

@@ -126,7 +126,8 @@ pub fn raise(
     e: &Option<Expr>,
     more: &Option<Expr>,
 ) -> Result<(), NoMemory>
-    ensures { OnOk result (w.new ≡ spell line w.old (k.Keyword kw.RAISE ∷ expr_or e.now ++ led_or (k.Op op.COMMA) more.now)) }
+    ensures { OnOk result (w.new
+        ≡ spell line w.old (k.Keyword kw.RAISE ∷ expr_or e.now ++ led_or (k.Op op.COMMA) more.now)) }
 {
     w.keyword(line, keyword::RAISE)?;
     value(w, line, e)?;
@@ -160,7 +161,8 @@ pub fn global(w: &mut Writer, line: u32, ns: &[Bytes]) -> Result<(), NoMemory>
 }
 
 pub fn assert(w: &mut Writer, line: u32, test: &Expr, more: &Option<Expr>) -> Result<(), NoMemory>
-    ensures { OnOk result (w.new ≡ spell line w.old (k.Keyword kw.ASSERT ∷ words test.now ++ led_or (k.Op op.COMMA) more.now)) }
+    ensures { OnOk result (w.new
+        ≡ spell line w.old (k.Keyword kw.ASSERT ∷ words test.now ++ led_or (k.Op op.COMMA) more.now)) }
 {
     w.keyword(line, keyword::ASSERT)?;
     expression(w, line, test)?;
@@ -206,7 +208,9 @@ pub fn import(w: &mut Writer, line: u32, is: &[Imported]) -> Result<(), NoMemory
 }
 
 pub fn import_from(w: &mut Writer, line: u32, from: &[u8], is: &[Imported]) -> Result<(), NoMemory>
-    ensures { OnOk result (w.new ≡ spell line w.old (k.Keyword kw.FROM ∷ k.Name from.now ∷ k.Keyword kw.IMPORT ∷ commas (map imported_words is.now))) }
+    ensures { OnOk result (w.new
+        ≡ spell line w.old
+        (k.Keyword kw.FROM ∷ k.Name from.now ∷ k.Keyword kw.IMPORT ∷ commas (map imported_words is.now))) }
 {
     w.keyword(line, keyword::FROM)?;
     w.name(line, from)?;
@@ -241,7 +245,8 @@ fn params(w: &mut Writer, line: u32, ps: &[Param]) -> Result<(), NoMemory>
 }
 
 pub fn def_head(w: &mut Writer, line: u32, name: &[u8], ps: &[Param]) -> Result<(), NoMemory>
-    ensures { OnOk result (w.new ≡ spell line w.old (k.Keyword kw.DEF ∷ k.Name name.now ∷ round (commas (map param_words ps.now)))) }
+    ensures { OnOk result (w.new
+        ≡ spell line w.old (k.Keyword kw.DEF ∷ k.Name name.now ∷ round (commas (map param_words ps.now)))) }
 {
     w.keyword(line, keyword::DEF)?;
     w.name(line, name)?;
@@ -272,7 +277,8 @@ pub fn class_head(w: &mut Writer, line: u32, name: &[u8], e: &Option<Expr>) -> R
 }
 
 pub fn for_head(w: &mut Writer, line: u32, target: &Expr, over: &Expr) -> Result<(), NoMemory>
-    ensures { OnOk result (w.new ≡ spell line w.old (k.Keyword kw.FOR ∷ words target.now ++ k.Keyword kw.IN ∷ words over.now)) }
+    ensures { OnOk result (w.new
+        ≡ spell line w.old (k.Keyword kw.FOR ∷ words target.now ++ k.Keyword kw.IN ∷ words over.now)) }
 {
     w.keyword(line, keyword::FOR)?;
     expression(w, line, target)?;
@@ -286,7 +292,8 @@ pub fn except_head(
     test: &Option<Expr>,
     target: &Option<Expr>,
 ) -> Result<(), NoMemory>
-    ensures { OnOk result (w.new ≡ spell line w.old (k.Keyword kw.EXCEPT ∷ expr_or test.now ++ led_or (k.Keyword kw.AS) target.now)) }
+    ensures { OnOk result (w.new
+        ≡ spell line w.old (k.Keyword kw.EXCEPT ∷ expr_or test.now ++ led_or (k.Keyword kw.AS) target.now)) }
 {
     w.keyword(line, keyword::EXCEPT)?;
     value(w, line, test)?;

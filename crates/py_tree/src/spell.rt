@@ -1,10 +1,11 @@
 //! Expressions, word by word.
 #![tactic(auto, using(crate::proofs::Pages::spelled))]
 
-ghost use Rattle.std.specs.Prelude.{◌≡◌, ◌++◌, map, OnOk};
+ghost use Rattle.std.specs.Prelude.{◌≡◌, ◌==◌, ◌∷◌, ◌++◌, length, map, OnOk};
+ghost use Rattle.py_tokens.specs.declared.keyword.TheConstants as kw;
 ghost use Rattle.py_tokens.specs.declared.operator.TheConstants as op;
 ghost use Rattle.py_tokens.specs.declared.token.TokenKind.TheVariants as k;
-ghost use Rattle.py_tree.specs.Spelling.{operator_words, sign_words, commas, all_words, words, words_trailer, words_link, words_named, words_pair};
+ghost use Rattle.py_tree.specs.Spelling.{operator_words, sign_words, commas, all_words, round, square, words, words_trailer, words_link, words_named, words_pair};
 ghost use Rattle.py_tree.specs.Canonical.{expr_or};
 ghost use Rattle.py_tree.specs.inner.Page.{spell, comma_if, listed};
 
@@ -81,22 +82,9 @@ pub fn expression(w: &mut Writer, line: u32, e: &Expr) -> Result<(), NoMemory>
         Expr::Name(name) => w.name(line, name.as_slice()),
         Expr::Int(n) => w.int(line, *n),
         Expr::Str(bytes) => w.string(line, bytes.as_slice()),
-        Expr::Group(inner) => {
-            w.operator(line, operator::OPEN_ROUND)?;
-            expression(w, line, inner.get())?;
-            w.operator(line, operator::CLOSE_ROUND)
-        }
-        Expr::Tuple(items) => {
-            w.operator(line, operator::OPEN_ROUND)?;
-            listed(w, line, false, items.as_slice())?;
-            separate(w, line, items.len() == 1)?;
-            w.operator(line, operator::CLOSE_ROUND)
-        }
-        Expr::List(items) => {
-            w.operator(line, operator::OPEN_SQUARE)?;
-            listed(w, line, false, items.as_slice())?;
-            w.operator(line, operator::CLOSE_SQUARE)
-        }
+        Expr::Group(inner) => group(w, line, inner.get()),
+        Expr::Tuple(items) => tuple(w, line, items.as_slice()),
+        Expr::List(items) => list(w, line, items.as_slice()),
         Expr::Dict(pairs) => {
             w.operator(line, operator::OPEN_BRACE)?;
             dictionary(w, line, pairs.as_slice())?;
@@ -119,10 +107,7 @@ pub fn expression(w: &mut Writer, line: u32, e: &Expr) -> Result<(), NoMemory>
             expression(w, line, first.get())?;
             links(w, line, more.as_slice())
         }
-        Expr::Not(operand) => {
-            w.keyword(line, keyword::NOT)?;
-            expression(w, line, operand.get())
-        }
+        Expr::Not(operand) => negated(w, line, operand.get()),
         Expr::Choice(then, test, other) => {
             expression(w, line, then.get())?;
             w.keyword(line, keyword::IF)?;
@@ -131,6 +116,44 @@ pub fn expression(w: &mut Writer, line: u32, e: &Expr) -> Result<(), NoMemory>
             expression(w, line, other.get())
         }
     }
+}
+
+#[cycle(spelling)]
+fn group(w: &mut Writer, line: u32, inner: &Expr) -> Result<(), NoMemory>
+    ensures { OnOk result (w.new ≡ spell line w.old (round (words inner.now))) }
+{
+    w.operator(line, operator::OPEN_ROUND)?;
+    expression(w, line, inner)?;
+    w.operator(line, operator::CLOSE_ROUND)
+}
+
+/// A tuple, with a comma after its only item.
+#[cycle(spelling)]
+fn tuple(w: &mut Writer, line: u32, items: &[Expr]) -> Result<(), NoMemory>
+    ensures { OnOk result (w.new
+        ≡ spell line w.old (round (commas (map words items.now) ++ comma_if (length items.now == 1)))) }
+{
+    w.operator(line, operator::OPEN_ROUND)?;
+    listed(w, line, false, items)?;
+    separate(w, line, items.len() == 1)?;
+    w.operator(line, operator::CLOSE_ROUND)
+}
+
+#[cycle(spelling)]
+fn list(w: &mut Writer, line: u32, items: &[Expr]) -> Result<(), NoMemory>
+    ensures { OnOk result (w.new ≡ spell line w.old (square (commas (map words items.now)))) }
+{
+    w.operator(line, operator::OPEN_SQUARE)?;
+    listed(w, line, false, items)?;
+    w.operator(line, operator::CLOSE_SQUARE)
+}
+
+#[cycle(spelling)]
+fn negated(w: &mut Writer, line: u32, operand: &Expr) -> Result<(), NoMemory>
+    ensures { OnOk result (w.new ≡ spell line w.old (k.Keyword kw.NOT ∷ words operand.now)) }
+{
+    w.keyword(line, keyword::NOT)?;
+    expression(w, line, operand)
 }
 
 /// Expressions with commas between them, and one before the first if it is wanted there.
