@@ -30,12 +30,14 @@ use Rattle.py_compile.proofs.Legal.{legal_all}
 use Rattle.py_compile.specs.Whole as whole
 use Rattle.py_compile.proofs.ExprInduct.{Every}
 use Rattle.py_compile.proofs.World.{known, lim, Slotted, BodiesOk}
-use Rattle.py_compile.proofs.Blocks.{Does}
+use Rattle.py_compile.proofs.Surrounds.{Does}
 use Rattle.py_compile.proofs.Numbers.{Noted, all_noted}
 use Rattle.py_compile.proofs.RootsMade.{parts, roots_right}
 use Rattle.py_compile.proofs.Sits.{Opens, opens_front, opens_back, Sits, sub_parts, BodiesSit, AllOpen, module_opens}
-use Rattle.py_compile.proofs.Clean.{Fit, NoteOk, IsClean, template_clean, parts_clean}
-use Rattle.py_compile.proofs.StmtClean.{Flagged, BodiesClean, module_clean}
+use Rattle.py_compile.proofs.Fit.{Fit, NoteOk}
+use Rattle.py_compile.proofs.Clean.{IsClean, template_clean, parts_clean}
+use Rattle.py_compile.proofs.StmtClean.{Flagged, BodiesClean}
+use Rattle.py_compile.proofs.BodyClean.{module_clean}
 use Rattle.py_compile.proofs.BelongRows.{no_setup, every_all, opens_none, belongs_from, number_is}
 use Rattle.py_compile.proofs.Program.{IsWhole}
 use Rattle.py_compile.proofs.CodesRight as made
@@ -83,12 +85,12 @@ whole_fit ok flags zero z y n h c = (
 whole_fit ok flags (suc j) z y n h c = template_clean ok flags z y.line 0 0
     (Sub 1 (y.block n) ∷ Op (Const NoValue) ∷ Op Return ∷ []) (c, (tt, (tt, tt))) [] 0 h
 
-whole_sits : (N : ℕ → Bool → Known) (all : List Instr) (j : ℕ) (y : Body) (n : Known) (h : ℕ) →
-    ((g : ℕ) → Opens ((whole.whole j y n).code [] 0 h) g → Opens all g) → Sits N all (y.block n)
-whole_sits N all zero y n h s = (sub_parts N all y.line 0 0
+whole_sits : (knows : ℕ → Bool → Known) (all : List Instr) (j : ℕ) (y : Body) (n : Known) (h : ℕ) →
+    ((g : ℕ) → Opens ((whole.whole j y n).code [] 0 h) g → Opens all g) → Sits knows all (y.block n)
+whole_sits knows all zero y n h s = (sub_parts knows all y.line 0 0
     (Op Setup ∷ Sub 1 (y.block n) ∷ Op (Const NoValue) ∷ Op Return ∷ [])
     (record { env = []; place = 0; slot = h; opens = s })).1.0
-whole_sits N all (suc j) y n h s = (sub_parts N all y.line 0 0
+whole_sits knows all (suc j) y n h s = (sub_parts knows all y.line 0 0
     (Sub 1 (y.block n) ∷ Op (Const NoValue) ∷ Op Return ∷ []) (record { env = []; place = 0; slot = h; opens = s })).0
 
 -- each instruction has its line
@@ -133,26 +135,26 @@ same_limits a c e1 e2 e3 e4 e5 e6 e7 i =
     record { slots = e1 i; keys = e2 i; strings = e3 i; cells = e4 i; roots = e5 i; params = e6 i; first = e7 i }
 
 module _ (locals : List (List (List ℕ))) (ss : List Stmt) where
-  abbrev L : ℕ → List (List ℕ)
-  L = whole.locals_of locals ss
+  abbrev all_locals : ℕ → List (List ℕ)
+  all_locals = whole.locals_of locals ss
 
   abbrev us : List Use
   us = whole.uses locals ss
 
-  abbrev T : List (List ℕ)
-  T = whole.texts locals ss
+  abbrev all_texts : List (List ℕ)
+  all_texts = whole.texts locals ss
 
-  abbrev C : List (List ℕ)
-  C = whole.cells locals ss
+  abbrev all_cells : List (List ℕ)
+  all_cells = whole.cells locals ss
 
-  abbrev Ks : ℕ → List (List (List ℕ))
-  Ks = made.Ks locals ss
+  abbrev all_keys : ℕ → List (List (List ℕ))
+  all_keys = made.all_keys locals ss
 
-  abbrev P : List ℕ
-  P = made.P locals ss
+  abbrev all_params : List ℕ
+  all_params = made.all_params locals ss
 
-  abbrev N : ℕ → Bool → Known
-  N = known L T C Ks P
+  abbrev knows : ℕ → Bool → Known
+  knows = known all_locals all_texts all_cells all_keys all_params
 
   abbrev nm : ℕ → Body → Known
   nm = whole.names_of locals ss
@@ -179,42 +181,55 @@ module _ (locals : List (List (List ℕ))) (ss : List Stmt) where
   ok r = HasCellAt (names_of rs) (slice_get rs r)
 
   abbrev to : List ℕ → Type 0
-  to x = has x T ≡ true
+  to x = has x all_texts ≡ true
 
   abbrev go : List ℕ → Type 0
-  go x = has x C ≡ true
+  go x = has x all_cells ≡ true
 
   abbrev flags : ℕ → Bool
   flags f = get_or (map (λ y. y.is_class) (whole.bodies ss)) f false
 
   -- a string that is a global name too is the name of a cell
   abbrev TT : List (List ℕ)
-  TT = T ++ main_texts C
+  TT = all_texts ++ main_texts all_cells
 
-  holds : (x : List ℕ) → to x → go x → ok (text (N 0 false) x)
+  holds : (x : List ℕ) → to x → go x → ok (text (knows 0 false) x)
   holds x t g =
-      let k = number_in x T in
-      let y = get_or T k [] in
-      let n = number_is x T [] t in
+      let k = number_in x all_texts in
+      let y = get_or all_texts k [] in
+      let n = number_is x all_texts [] t in
       let w = n.0 in
       let same : x ≡ y = (bytes_eq-Decides x y).0 n.1 in
-      let lt = length-append T (main_texts C) in
+      let lt = length-append all_texts (main_texts all_cells) in
       let lm = length-map TT text_root in
-      let a : get_or rs (21 + k) (text_root []) ≡ get_or (map text_root TT ++ map cell_root C) k (text_root []) =
-      get_or-append-add (cell_root [] ∷ class_roots 0 class_count) (map text_root TT ++ map cell_root C) k
+      let a : get_or rs (21 + k) (text_root [])
+      ≡ get_or (map text_root TT ++ map cell_root all_cells) k (text_root []) =
+      get_or-append-add (cell_root [] ∷ class_roots 0 class_count) (map text_root TT ++ map cell_root all_cells) k
       (text_root []) in
-      let b = get_or_append_left (map text_root TT) (map cell_root C) (text_root []) k (omega (arith, w, lm, lt)) in
+      let b = get_or_append_left (map text_root TT) (map cell_root all_cells) (text_root []) k (omega (
+        arith,
+        w,
+        lm,
+        lt,
+      )) in
       let c = get_or-map text_root TT k [] (text_root []) (omega (arith, w, lt)) in
-      let e = get_or_append_left T (main_texts C) [] k w in
+      let e = get_or_append_left all_texts (main_texts all_cells) [] k w in
       let v : get_or rs (21 + k) (text_root []) ≡ text_root y = a ∙ b ∙ c ∙ ap text_root e in
-      let within : 21 + k < length rs = omega (arith, w, lm, lt, length-append (map text_root TT) (map cell_root C)) in
+      let within : 21 + k < length rs = omega (
+        arith,
+        w,
+        lm,
+        lt,
+        length-append (map text_root TT) (map cell_root all_cells),
+      ) in
       let s : slice_get rs (21 + k) ≡ Some (text_root y) = slice_get-get_or rs (21 + k) (text_root []) within ∙
       ap Some v in
-      let h : has y (names_of rs) ≡ true = ap (has y) (names_told TT C) ∙ subst (λ z. has z C ≡ true) same g in
+      let h : has y (names_of rs) ≡ true = ap (has y) (names_told TT all_cells) ∙ subst (λ z. has z all_cells
+      ≡ true) same g in
       subst (HasCellAt (names_of rs)) (sym s) h
 
   -- uses are in their lists
-  notes : (vs : List Use) → Every (Noted T C Ks) vs → Every (NoteOk to go) vs
+  notes : (vs : List Use) → Every (Noted all_texts all_cells all_keys) vs → Every (NoteOk to go) vs
   notes [] h = tt
   notes (Text x ∷ vs) h = (h.0, notes vs h.1)
   notes (Global x ∷ vs) h = (h.0, notes vs h.1)
@@ -225,44 +240,52 @@ module _ (locals : List (List (List ℕ))) (ss : List Stmt) where
   codes_params j [] = refl
   codes_params j (y ∷ ys) = ap (λ l. y.params ∷ l) (codes_params (j + 1) ys)
 
-  limits_same : (j : ℕ) (y : Body) → lim L T C Ks P j (length (code j y).slots) (first_place j) ≡ limits_of cs rs j
+  limits_same : (j : ℕ) (y : Body) → lim all_locals all_texts all_cells all_keys all_params j (length (code j y).slots)
+      (first_place j) ≡ limits_of cs rs j
       (code j y)
   limits_same j y =
-      let lt = length-append T (main_texts C) in
-      let tl : length (texts_of rs) ≡ length TT = ap length (texts_told TT C) in
-      let cells : 21 + length T + length (main_texts C) ≡ 21 + length (texts_of rs) = omega (arith, tl, lt) in
-      let roots : 21 + length T + length (main_texts C) + length C ≡ length rs =
+      let lt = length-append all_texts (main_texts all_cells) in
+      let tl : length (texts_of rs) ≡ length TT = ap length (texts_told TT all_cells) in
+      let cells : 21 + length all_texts + length (main_texts all_cells) ≡ 21 + length (texts_of rs) = omega (
+        arith,
+        tl,
+        lt,
+      ) in
+      let roots : 21 + length all_texts + length (main_texts all_cells) + length all_cells ≡ length rs =
       omega (
         arith,
         lt,
         length-map TT text_root,
-        length-map C cell_root,
-        length-append (map text_root TT) (map cell_root C),
+        length-map all_cells cell_root,
+        length-append (map text_root TT) (map cell_root all_cells),
       ) in
-      same_limits (lim L T C Ks P j (length (code j y).slots) (first_place j)) (limits_of cs rs j (code j y)) refl refl
+      same_limits (lim all_locals all_texts all_cells all_keys all_params j (length (code j y).slots) (first_place j))
+      (limits_of cs rs j (code j y)) refl refl
       refl cells roots (sym (codes_params 0 (whole.bodies ss))) refl
 
   -- the code of each body is among all instructions
   codes_sit : (j : ℕ) (ys : List Body) → ((g : ℕ) → Opens (all_instrs (codes j ys)) g → Opens all g) →
-      BodiesSit N all j ys
+      BodiesSit knows all j ys
   codes_sit j [] h = tt
   codes_sit j (y ∷ ys) h =
       let a = (code j y).instrs in
       let c = all_instrs (codes (j + 1) ys) in (
-        whole_sits N all j y (N j y.is_class) (length (whole.slots_named y.is_class (L j)))
+        whole_sits knows all j y (knows j y.is_class) (length (whole.slots_named y.is_class (all_locals j)))
             (λ g o. h g (opens_front a c g o)),
         codes_sit (j + 1) ys (λ g o. h g (opens_back a c g o)),
       )
 
-  all_open : AllOpen N all 0 (whole.bodies ss)
-  all_open = let s = codes_sit 0 (whole.bodies ss) (λ g o. o) in ((λ e. absurd (cc)), module_opens N all ss s.0 s.1)
+  all_open : AllOpen knows all 0 (whole.bodies ss)
+  all_open = let s = codes_sit 0 (whole.bodies ss) (λ g o. o) in ((λ e. absurd (cc)), module_opens knows all ss s.0 s.1)
 
-  module _ (free : (j : ℕ) (x : List ℕ) → is_none x ≡ true → has x (L j) ≡ false) where
+  module _ (free : (j : ℕ) (x : List ℕ) → is_none x ≡ true → has x (all_locals j) ≡ false) where
     abbrev FlagsOf : (ℕ → Bool) → ℕ → List Body → Type 0
-    FlagsOf fs f ys = Flagged L T C Ks P (made.none locals ss) ok fs to go holds free f ys
+    FlagsOf fs f ys = Flagged all_locals all_texts all_cells all_keys all_params
+        (made.none locals ss) ok fs to go holds free f ys
 
     abbrev Cleans : ℕ → List Body → Type 0
-    Cleans f ys = BodiesClean L T C Ks P (made.none locals ss) ok flags to go holds free f ys
+    Cleans f ys = BodiesClean all_locals all_texts all_cells all_keys all_params
+        (made.none locals ss) ok flags to go holds free f ys
 
     flag_all : (pre ys : List Body) → 0 < length pre →
         FlagsOf (λ f. get_or (map (λ y. y.is_class) (pre ++ ys)) f false) (length pre) ys
@@ -279,16 +302,18 @@ module _ (locals : List (List (List ℕ))) (ss : List Stmt) where
         let rest = flag_all (pre ++ y ∷ []) ys (omega (arith, m)) in
         let rest' = subst (λ l. FlagsOf (λ f. get_or (map (λ y. y.is_class) l) f false) (length (pre ++ y ∷ [])) ys)
         (append_assoc pre (y ∷ []) ys) rest in
-        (lt, here, subst (λ i. FlagsOf (λ f. get_or fs f false) i ys) m rest')
+        ((lt, here), subst (λ i. FlagsOf (λ f. get_or fs f false) i ys) m rest')
 
     cleans : legal_all ss false false ≡ true → Cleans 0 (whole.bodies ss)
     unfolding module_uses
-    cleans h = module_clean L T C Ks P (made.none locals ss) ok flags to go holds free ss h
+    cleans h = module_clean all_locals all_texts all_cells all_keys all_params
+        (made.none locals ss) ok flags to go holds free ss h
         (notes us (all_noted [] [] (λ j. [] ∷ []) us)) (flag_all (whole.module_body ss ∷ []) inner (omega arith))
 
-    fits : (j : ℕ) (y : Body) → IsClean ok flags y.is_class (y.block (N j y.is_class)) →
+    fits : (j : ℕ) (y : Body) → IsClean ok flags y.is_class (y.block (knows j y.is_class)) →
         FitAll ok flags j y.is_class (code j y).instrs
-    fits j y c = whole_fit ok flags j y.is_class y (N j y.is_class) (length (whole.slots_named y.is_class (L j))) c
+    fits j y c = whole_fit ok flags j y.is_class y (knows j y.is_class)
+        (length (whole.slots_named y.is_class (all_locals j))) c
 
     -- what is no class body's isn't opened
     none_open : (f : ℕ) → flags f ≡ false → (j : ℕ) (ys : List Body) → Cleans j ys →
@@ -304,20 +329,22 @@ module _ (locals : List (List (List ℕ))) (ss : List Stmt) where
     other h f e = none_open f e 0 (whole.bodies ss) h
 
     code_ok : Cleans 0 (whole.bodies ss) → (j : ℕ) (y : Body) →
-        ((sl p : ℕ) → Slotted L T C Ks P j y.is_class sl → Does (lim L T C Ks P j sl p) [] (y.block (N j y.is_class)))
-        → IsClean ok flags y.is_class (y.block (N j y.is_class)) → (y.is_class ≡ true → Opens all j) →
-        whole.large_at j y (nm j y) ≡ None → y.params ≤ length (whole.slots_named y.is_class (L j)) →
+        ((sl p : ℕ) → Slotted all_locals all_texts all_cells all_keys all_params j y.is_class sl →
+        Does (lim all_locals all_texts all_cells all_keys all_params j sl p) [] (y.block (knows j y.is_class)))
+        → IsClean ok flags y.is_class (y.block (knows j y.is_class)) → (y.is_class ≡ true → Opens all j) →
+        whole.large_at j y (nm j y) ≡ None → y.params ≤ length (whole.slots_named y.is_class (all_locals j)) →
         IsRightCode cs rs j (code j y)
     code_ok h j y d c o e q =
         let few = ltb-false 65535 (whole.whole j y (nm j y)).size
         (large_none (nat_lt 65535 (whole.whole j y (nm j y)).size) y.line e) in
         let fit = fits j y c in
         let long = made.slots_long locals ss j y in
-        let slots = length (whole.slots_named y.is_class (L j)) in
+        let slots = length (whole.slots_named y.is_class (all_locals j)) in
         let whole_code = subst (λ k. IsWhole k (code j y).instrs) (limits_same j y)
         (made.code_right locals ss j y d (omega (arith, few))) in
         record {
-          lined = whole_lined (lim L T C Ks P j (slots + 0) 0) j y (N j y.is_class) slots
+          lined = whole_lined (lim all_locals all_texts all_cells all_keys all_params j (slots + 0) 0) j y
+              (knows j y.is_class) slots
               (d (slots + 0) 0 (made.named_slotted locals ss y.is_class j 0)) (omega (arith, few));
           slotted = omega (arith, q, long);
           sets_up = fit_setup ok flags j y.is_class (code j y).instrs fit;
@@ -326,8 +353,10 @@ module _ (locals : List (List (List ℕ))) (ss : List Stmt) where
           typed = whole_code.right;
         }
 
-    codes_right : Cleans 0 (whole.bodies ss) → (j : ℕ) (ys : List Body) → BodiesOk L T C Ks P j ys → Cleans j ys →
-        AllOpen N all j ys → whole.large_bodies nm j ys ≡ None → ParamsFit locals j ys → AreRight cs rs j (codes j ys)
+    codes_right : Cleans 0 (whole.bodies ss) → (j : ℕ) (ys : List Body) →
+        BodiesOk all_locals all_texts all_cells all_keys all_params j ys → Cleans j ys →
+        AllOpen knows all j ys → whole.large_bodies nm j ys ≡ None → ParamsFit locals j ys →
+        AreRight cs rs j (codes j ys)
     codes_right h j [] d c o e q = tt
     codes_right h j (y ∷ ys) d c o e q =
         let p = least_apart (whole.large_at j y (nm j y)) (whole.large_bodies nm (j + 1) ys) e in

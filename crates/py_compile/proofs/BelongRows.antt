@@ -15,7 +15,7 @@ use Rattle.py_compile.specs.Names.{number_in}
 use Rattle.py_base.specs.NameLists.{has}
 use Rattle.py_compile.proofs.ExprInduct.{Every}
 use Rattle.py_compile.proofs.Homes.{any_place}
-use Rattle.py_compile.proofs.Clean.{Fit}
+use Rattle.py_compile.proofs.Fit.{Fit}
 
 -- what holds of each instruction
 pub no_setup : (ok : ℕ → Type 0) (flags : ℕ → Bool) (z : Bool) (is : List Instr) → Every (Fit ok flags z) is →

@@ -1,6 +1,6 @@
 -- Simple statements lead from a shape to itself, whatever surrounds them, and so do the ways out of constructs.
-use Rattle.std.proofs.Common.{◌≡◌, ℕ, ◌+◌, ◌<◌, ◌≤◌, ◌^◌, List, [], ◌∷◌, Some, None, Bool, true, false, refl, ap, sym, subst, arith, length, map, get_or, drop}
-use Rattle.std.specs.Prelude.{All, IsTrue}
+use Rattle.std.proofs.Common.{◌≡◌, ℕ, ◌+◌, ◌<◌, ◌≤◌, ◌^◌, List, [], ◌∷◌, Some, Bool, true, false, refl, ap, sym, subst, arith, length, map, get_or, drop}
+use Rattle.std.specs.Prelude.{IsTrue}
 use Rattle.py_code.specs.declared.instr.Constant.{Constant}
 use Rattle.py_code.specs.declared.instr.Constant.TheVariants.{Root}
 use Rattle.py_code.specs.declared.instr.Instr.{Instr}
@@ -9,94 +9,20 @@ use Rattle.py_code.specs.Effects.{Limits, effect, On, Sh, floor_of, IsKnown, IsT
 use Rattle.py_compile.specs.declared.around.Way.{Way}
 use Rattle.py_compile.specs.declared.around.Way.TheVariants as way
 use Rattle.py_compile.specs.declared.home.Home.{Home}
-use Rattle.py_compile.specs.Template.{Piece, Op, Hidden, To, Here, Alone, Sub, size_of, row}
+use Rattle.py_compile.specs.Template.{Piece, Part, Op, Hidden, To, Here, Alone, Sub, template, row}
 use Rattle.py_compile.specs.Table.{E, A, load, store, nothing, one, assign, del_attr, del_item, add_name, add_attr, add_item, expression, print_one, print_line, import_one, raise_one, raise_two, assert_with, assert_alone, Around, InWhile, InFor, InTry, InClause, InFinally, way_out, return, raise_again}
-use Rattle.py_compile.proofs.Typed.{Ring, ring_at, Typed, Goes, template_typed}
+use Rattle.std.specs.Prelude.{All}
+use Rattle.py_compile.proofs.Typed.{Ring, Typed, Goes, PartsOk, all_stand, template_typed}
 use Rattle.py_compile.proofs.Ops.{sh, op, load_op, store_op, pop_op, pop_try_op, raise_op, return_op, jump_op, jump_false}
-use Rattle.py_compile.proofs.Values.{Each, Room, Value, Store, Change, changes, same}
+use Rattle.py_compile.proofs.Values.{Each, Room, own_ring, Value, Store, Change, changes, same}
+use Rattle.py_compile.proofs.Surrounds.{AroundFits, low, Does, Leaves, block_does, in_loop, in_clause, SlotFits, slot_fits}
 
 no_keys : (k : Limits) → All (IsText k) []
 no_keys k n d lt = absurd (omega (arith, lt))
 
 module _ (k : Limits) where
-  -- what surrounds a statement fits the shape at which it stands: one ring for each construct
-  abbrev pub AroundFits : List Around → List Ring → ℕ → List ℕ → Type 0
-  AroundFits [] gs h bs = floor_of bs ≤ h
-  AroundFits (InWhile ∷ c) gs h bs = (get_or (ring_at gs 0).labels E None ≡ Some (sh h bs)) ×
-      (get_or (ring_at gs 0).labels A None ≡ Some (sh h bs)) × AroundFits c (drop 1 gs) h bs
-  AroundFits (InFor ∷ c) gs h bs = (low : ℕ) × (h ≡ low + 1) × (get_or (ring_at gs 0).labels E None ≡ Some (sh low bs))
-      × (get_or (ring_at gs 0).labels A None ≡ Some (sh h bs)) × AroundFits c (drop 1 gs) low bs
-  AroundFits (InTry ∷ c) gs h bs = (outer : List ℕ) × (bs ≡ h ∷ outer) × AroundFits c (drop 1 gs) h outer
-  AroundFits (InClause ∷ c) gs h bs = (0 < (ring_at gs 0).own) × AroundFits c (drop 1 gs) h bs
-  AroundFits (InFinally fin ∷ c) gs h bs = (outer : List ℕ) × (bs ≡ h ∷ outer) × Typed k fin (drop 1 gs) (sh h outer)
-      (sh h outer) × AroundFits c (drop 1 gs) h outer
-
-  pub low : (c : List Around) (gs : List Ring) (h : ℕ) (bs : List ℕ) → AroundFits c gs h bs → floor_of bs ≤ h
-  low [] gs h bs f = f
-  low (InWhile ∷ c) gs h bs f = low c (drop 1 gs) h bs f.2
-  low (InFor ∷ c) gs h bs (l, e, a, b, f) = let r = low c (drop 1 gs) l bs f in omega (arith, r, e)
-  low (InTry ∷ c) gs h bs (o, e, f) = let r : floor_of (h ∷ o) ≤ h = omega arith in
-      subst (λ z. floor_of z ≤ h) (sym e) r
-  low (InClause ∷ c) gs h bs f = low c (drop 1 gs) h bs f.1
-  low (InFinally fin ∷ c) gs h bs (o, e, t, f) = let r : floor_of (h ∷ o) ≤ h = omega arith in
-      subst (λ z. floor_of z ≤ h) (sym e) r
-
-  -- a statement inside these constructs
-  pub record Does (c : List Around) (b : Piece) : Type 0 where
-    pub typed : (gs : List Ring) (h : ℕ) (bs : List ℕ) → AroundFits c gs h bs → Room h b →
-        Typed k b gs (sh h bs) (sh h bs)
-
-  -- one that never ends at its end
-  pub record Leaves (c : List Around) (b : Piece) : Type 0 where
-    pub typed : (gs : List Ring) (h : ℕ) (bs : List ℕ) (s : Sh) → AroundFits c gs h bs → Room h b →
-        Typed k b gs (sh h bs) s
-
-  pub leaves_does : (c : List Around) (b : Piece) → Leaves c b → Does c b
-  leaves_does c b w = record { typed = λ gs h bs f room. w.typed gs h bs (sh h bs) f room }
-
-  each_does : (c : List Around) (gs : List Ring) (h : ℕ) (bs : List ℕ) (ps : List Piece) → AroundFits c gs h bs →
-      Each (Does c) ps → h + size_of (map (Sub 1) ps) + 8 < 2 ^ 32 → Each (λ b. Typed k b gs (sh h bs) (sh h bs)) ps
-  each_does c gs h bs [] f vs room = tt
-  each_does c gs h bs (p ∷ ps) f (v, vs) room =
-      (v.typed gs h bs f (omega (arith, room)), each_does c gs h bs ps f vs (omega (arith, room)))
-
-  pub block_does : (c : List Around) (ps : List Piece) → Each (Does c) ps → Does c (row ps)
-  block_does c ps vs = record { typed = λ gs h bs f room. same k gs ps (sh h bs) (each_does c gs h bs ps f vs room) }
-
-  -- break and continue stand in a loop, a raise alone in a clause
-  abbrev pub in_loop : List Around → Bool
-  in_loop [] = false
-  in_loop (InWhile ∷ c) = true
-  in_loop (InFor ∷ c) = true
-  in_loop (_ ∷ c) = in_loop c
-
-  abbrev pub in_clause : List Around → Bool
-  in_clause [] = false
-  in_clause (InClause ∷ c) = true
-  in_clause (_ ∷ c) = in_clause c
-
-  -- an except clause: E is the end of its try
-  pub record Clause (c : List Around) (b : Piece) : Type 0 where
-    pub typed : (gs : List Ring) (h : ℕ) (bs : List ℕ) → AroundFits (InClause ∷ c) gs h bs →
-        get_or (ring_at gs 0).labels E None ≡ Some (sh h bs) → Room h b → Typed k b gs (sh h bs) (sh h bs)
-
-  -- the slot of the innermost clause
-  abbrev pub SlotFits : List Around → List Ring → Type 0
-  SlotFits [] gs = ⊥
-  SlotFits (InClause ∷ c) gs = 0 < (ring_at gs 0).own
-  SlotFits (_ ∷ c) gs = SlotFits c (drop 1 gs)
-
-  slot_fits : (c : List Around) (gs : List Ring) (h : ℕ) (bs : List ℕ) → AroundFits c gs h bs → IsTrue (in_clause c) →
-      SlotFits c gs
-  slot_fits [] gs h bs f i = cc
-  slot_fits (InClause ∷ c) gs h bs f i = f.0
-  slot_fits (InWhile ∷ c) gs h bs f i = slot_fits c (drop 1 gs) h bs f.2 i
-  slot_fits (InFor ∷ c) gs h bs (l, e, a, b, g) i = slot_fits c (drop 1 gs) l bs g i
-  slot_fits (InTry ∷ c) gs h bs (o, e, g) i = slot_fits c (drop 1 gs) h o g i
-  slot_fits (InFinally fin ∷ c) gs h bs (o, e, t, g) i = slot_fits c (drop 1 gs) h o g i
-
   module _ (ln : ℕ) where
-    pub nothing_does : (c : List Around) → Does c (nothing ln)
+    pub nothing_does : (c : List Around) → Does k c (nothing ln)
     nothing_does c = record { typed = λ gs h bs f room. template_typed k ln 0 0 [] [] gs _ _ refl refl refl }
 
     -- the end of a block, where the blocks are these
@@ -108,20 +34,21 @@ module _ (k : Limits) where
     jumps way.Out = false
     jumps _ = true
 
-    pub jump_does : (w : Way) → IsTrue (jumps w) → (c : List Around) → IsTrue (in_loop c) → Leaves c (way_out ln w c)
+    pub jump_does : (w : Way) → IsTrue (jumps w) → (c : List Around) → IsTrue (in_loop k c) →
+        Leaves k c (way_out ln w c)
     jump_does w q [] i = cc
     jump_does way.Break q (InWhile ∷ c) i = record {
       typed = λ gs h bs s f room. template_typed k ln 0 0 (To 1 Jump E ∷ []) [] gs _ _ refl refl
-          (s, (sh h bs, f.0, jump_op k h bs s (low (InWhile ∷ c) gs h bs f) (omega (arith, room))), refl);
+          (s, (sh h bs, f.0, jump_op k h bs s (low k (InWhile ∷ c) gs h bs f) (omega (arith, room))), refl);
     }
     jump_does way.Continue q (InWhile ∷ c) i = record {
       typed = λ gs h bs s f room. template_typed k ln 0 0 (To 1 Jump A ∷ []) [] gs _ _ refl refl
-          (s, (sh h bs, f.1, jump_op k h bs s (low (InWhile ∷ c) gs h bs f) (omega (arith, room))), refl);
+          (s, (sh h bs, f.1, jump_op k h bs s (low k (InWhile ∷ c) gs h bs f) (omega (arith, room))), refl);
     }
     jump_does way.Out q (InWhile ∷ c) i = cc
     jump_does way.Break q (InFor ∷ c) i = record {
       typed = λ gs h bs s f room. let (l, e, a, b, g) = f in
-          let floor = low c (drop 1 gs) l bs g in
+          let floor = low k c (drop 1 gs) l bs g in
           template_typed k ln 0 0 (Op Pop ∷ To 1 Jump E ∷ []) [] gs _ _ refl refl (
             sh l bs,
             subst (λ z. Goes k Pop (sh z bs) (sh l bs)) (sym e) (pop_op k l bs floor (omega (arith, room, e))),
@@ -130,7 +57,7 @@ module _ (k : Limits) where
     }
     jump_does way.Continue q (InFor ∷ c) i = record {
       typed = λ gs h bs s f room. template_typed k ln 0 0 (To 1 Jump A ∷ []) [] gs _ _ refl refl
-          (s, (sh h bs, f.3, jump_op k h bs s (low (InFor ∷ c) gs h bs f) (omega (arith, room))), refl);
+          (s, (sh h bs, f.3, jump_op k h bs s (low k (InFor ∷ c) gs h bs f) (omega (arith, room))), refl);
     }
     jump_does way.Out q (InFor ∷ c) i = cc
     jump_does w q (InTry ∷ c) i = let r = jump_does w q c i in record {
@@ -163,7 +90,7 @@ module _ (k : Limits) where
       floor : floor_of blocks ≤ height
       less : height ≤ h
 
-    out : (c : List Around) (gs : List Ring) (h : ℕ) (bs : List ℕ) → AroundFits c gs h bs →
+    out : (c : List Around) (gs : List Ring) (h : ℕ) (bs : List ℕ) → AroundFits k c gs h bs →
         Room h (way_out ln way.Out c) → Out gs h bs c
     out [] gs h bs f room = record {
       height = h;
@@ -191,7 +118,7 @@ module _ (k : Limits) where
           typed = template_typed k ln 0 0 (Op Pop ∷ Sub 2 (way_out ln way.Out c) ∷ []) [] gs _ _ refl refl (
             sh l bs,
             subst (λ z. Goes k Pop (sh z bs) (sh l bs)) (sym e)
-                (pop_op k l bs (low c (drop 1 gs) l bs g) (omega (arith, room, e))),
+                (pop_op k l bs (low k c (drop 1 gs) l bs g) (omega (arith, room, e))),
             (sh o.height o.blocks, o.typed, refl),
           );
           floor = o.floor;
@@ -229,10 +156,10 @@ module _ (k : Limits) where
           less = o.less;
         }
 
-    pub return_does : (e : Piece) (c : List Around) → Value k e → Leaves c (return ln e c)
+    pub return_does : (e : Piece) (c : List Around) → Value k e → Leaves k c (return ln e c)
     return_does e c ve = record {
       typed = λ gs h bs s f room.
-          let le = low c gs h bs f in
+          let le = low k c gs h bs f in
           let o = out c gs h bs f (omega (arith, room)) in
           template_typed k ln 1 0 (Alone e ∷ Hidden 0 StoreLocal ∷ Sub 1 (way_out ln way.Out c) ∷ Hidden 0 LoadLocal ∷
           Op Return ∷ []) [] gs _ _ refl refl (
@@ -254,7 +181,7 @@ module _ (k : Limits) where
           );
     }
 
-    raise_again_typed : (c : List Around) (gs : List Ring) (h : ℕ) (bs : List ℕ) (s : Sh) → SlotFits c gs →
+    raise_again_typed : (c : List Around) (gs : List Ring) (h : ℕ) (bs : List ℕ) (s : Sh) → SlotFits k c gs →
         floor_of bs ≤ h → Room h (raise_again ln c) → Typed k (raise_again ln c) gs (sh h bs) s
     raise_again_typed [] gs h bs s i le room = absurd i
     raise_again_typed (InClause ∷ c) gs h bs s i le room = template_typed k ln 0 0 (Hidden 1 LoadLocal ∷ Op Raise ∷ [])
@@ -272,10 +199,10 @@ module _ (k : Limits) where
     raise_again_typed (InFinally fin ∷ c) gs h bs s i le room = template_typed k ln 0 0 (Sub 2 (raise_again ln c) ∷ [])
         [] gs _ _ refl refl (s, raise_again_typed c (drop 1 gs) h bs s i le (omega (arith, room)), refl)
 
-    pub raise_again_does : (c : List Around) → IsTrue (in_clause c) → Leaves c (raise_again ln c)
+    pub raise_again_does : (c : List Around) → IsTrue (in_clause k c) → Leaves k c (raise_again ln c)
     raise_again_does c i = record {
-      typed = λ gs h bs s f room. raise_again_typed c gs h bs s (slot_fits c gs h bs f i)
-          (low c gs h bs f) room;
+      typed = λ gs h bs s f room. raise_again_typed c gs h bs s (slot_fits k c gs h bs f i)
+          (low k c gs h bs f) room;
     }
 
     -- Simple statements.
@@ -286,9 +213,9 @@ module _ (k : Limits) where
         (omega (arith, room)) (omega arith)
 
     pub assign_does : (c : List Around) (e : Piece) (ts : List Piece) (t : Piece) → Value k e → Each (Change k) ts →
-        Store k t → Does c (assign ln e ts t)
+        Store k t → Does k c (assign ln e ts t)
     assign_does c e ts t ve vs vt = record {
-      typed = λ gs h bs f room. let le = low c gs h bs f in
+      typed = λ gs h bs f room. let le = low k c gs h bs f in
           template_typed k ln 0 0 (Alone e ∷ Alone (row ts) ∷ Alone t ∷ []) [] gs _ _ refl refl (
             sh (h + 1) bs,
             ve.typed h bs le (omega (arith, room)),
@@ -302,16 +229,16 @@ module _ (k : Limits) where
 
     -- an instruction that leaves the stack as it is, as the deletion of a name
     pub one_does : (c : List Around) (i : Instr) → (effect k i).flow ≡ On → (effect k i).pops ≡ 0 →
-        (effect k i).pushes ≡ 0 → IsKnown k i → Does c (one ln i)
+        (effect k i).pushes ≡ 0 → IsKnown k i → Does k c (one ln i)
     one_does c i a b p d = record {
-      typed = λ gs h bs f room. let le = low c gs h bs f in
+      typed = λ gs h bs f room. let le = low k c gs h bs f in
           template_typed k ln 0 0 (Op i ∷ []) [] gs _ _ refl refl
           (sh h bs, op k i h h bs a d (omega (arith, b, le)) (omega (arith, p, room)) (omega (arith, b, p)), refl);
     }
 
-    pub del_attr_does : (c : List Around) (o : Piece) (n : ℕ) → Value k o → IsText k n → Does c (del_attr ln o n)
+    pub del_attr_does : (c : List Around) (o : Piece) (n : ℕ) → Value k o → IsText k n → Does k c (del_attr ln o n)
     del_attr_does c o n vo kn = record {
-      typed = λ gs h bs f room. let le = low c gs h bs f in
+      typed = λ gs h bs f room. let le = low k c gs h bs f in
           template_typed k ln 0 0 (Alone o ∷ Op (DelAttr n) ∷ []) [] gs _ _ refl refl (
             sh (h + 1) bs,
             vo.typed h bs le (omega (arith, room)),
@@ -323,9 +250,9 @@ module _ (k : Limits) where
           );
     }
 
-    pub del_item_does : (c : List Around) (o i : Piece) → Value k o → Value k i → Does c (del_item ln o i)
+    pub del_item_does : (c : List Around) (o i : Piece) → Value k o → Value k i → Does k c (del_item ln o i)
     del_item_does c o i vo vi = record {
-      typed = λ gs h bs f room. let le = low c gs h bs f in
+      typed = λ gs h bs f room. let le = low k c gs h bs f in
           template_typed k ln 0 0 (Alone o ∷ Alone i ∷ Op DelItem ∷ []) [] gs _ _ refl refl (
             sh (h + 1) bs,
             vo.typed h bs le (omega (arith, room)),
@@ -358,9 +285,9 @@ module _ (k : Limits) where
         (omega (arith, room, r)) (omega (arith, q, r))
 
     pub add_name_does : (c : List Around) (x : Home) (o : ℕ) (e : Piece) → IsHome x → o < 12 → Value k e →
-        Does c (add_name ln x o e)
+        Does k c (add_name ln x o e)
     add_name_does c x o e ix lt ve = record {
-      typed = λ gs h bs f room. let le = low c gs h bs f in
+      typed = λ gs h bs f room. let le = low k c gs h bs f in
           template_typed k ln 0 0 (Op (load x) ∷ Alone e ∷ Op (InPlace o) ∷ Op (store x) ∷ []) [] gs _ _ refl refl (
             sh (h + 1) bs,
             load_home x h bs ix le (omega (arith, room)),
@@ -377,9 +304,9 @@ module _ (k : Limits) where
     }
 
     pub add_attr_does : (c : List Around) (a : Piece) (n o : ℕ) (e : Piece) → IsText k n → o < 12 → Value k a →
-        Value k e → Does c (add_attr ln a n o e)
+        Value k e → Does k c (add_attr ln a n o e)
     add_attr_does c a n o e kn lt va ve = record {
-      typed = λ gs h bs f room. let le = low c gs h bs f in
+      typed = λ gs h bs f room. let le = low k c gs h bs f in
           template_typed k ln 0 0 (Alone a ∷ Op Dup ∷ Op (LoadAttr n) ∷ Alone e ∷ Op (InPlace o) ∷ Op Rot2 ∷ Op
           (StoreAttr n) ∷ []) [] gs _ _ refl refl (
             sh (h + 1) bs,
@@ -416,9 +343,9 @@ module _ (k : Limits) where
     }
 
     pub add_item_does : (c : List Around) (a i : Piece) (o : ℕ) (e : Piece) → o < 12 → Value k a → Value k i →
-        Value k e → Does c (add_item ln a i o e)
+        Value k e → Does k c (add_item ln a i o e)
     add_item_does c a i o e lt va vi ve = record {
-      typed = λ gs h bs f room. let le = low c gs h bs f in
+      typed = λ gs h bs f room. let le = low k c gs h bs f in
           template_typed k ln 0 0 (Alone a ∷ Alone i ∷ Op Dup2 ∷ Op LoadItem ∷ Alone e ∷ Op (InPlace o) ∷ Op Rot3 ∷ Op
           StoreItem ∷ []) [] gs _ _ refl refl (
             sh (h + 1) bs,
@@ -459,9 +386,9 @@ module _ (k : Limits) where
           );
     }
 
-    pub expression_does : (c : List Around) (e : Piece) → Value k e → Does c (expression ln e)
+    pub expression_does : (c : List Around) (e : Piece) → Value k e → Does k c (expression ln e)
     expression_does c e ve = record {
-      typed = λ gs h bs f room. let le = low c gs h bs f in
+      typed = λ gs h bs f room. let le = low k c gs h bs f in
           template_typed k ln 0 0 (Alone e ∷ Op Pop ∷ []) [] gs _ _ refl refl (
             sh (h + 1) bs,
             ve.typed h bs le (omega (arith, room)),
@@ -469,9 +396,9 @@ module _ (k : Limits) where
           );
     }
 
-    pub print_one_does : (c : List Around) (e : Piece) → Value k e → Does c (print_one ln e)
+    pub print_one_does : (c : List Around) (e : Piece) → Value k e → Does k c (print_one ln e)
     print_one_does c e ve = record {
-      typed = λ gs h bs f room. let le = low c gs h bs f in
+      typed = λ gs h bs f room. let le = low k c gs h bs f in
           template_typed k ln 0 0 (Alone e ∷ Op PrintItem ∷ []) [] gs _ _ refl refl (
             sh (h + 1) bs,
             ve.typed h bs le (omega (arith, room)),
@@ -483,13 +410,13 @@ module _ (k : Limits) where
           );
     }
 
-    each_print : (es : List Piece) → Each (Value k) es → Each (Does []) (map (print_one ln) es)
+    each_print : (es : List Piece) → Each (Value k) es → Each (Does k []) (map (print_one ln) es)
     each_print [] vs = tt
     each_print (e ∷ es) (v, vs) = (print_one_does [] e v, each_print es vs)
 
-    pub print_line_does : (c : List Around) (es : List Piece) → Each (Value k) es → Does c (print_line ln es)
-    print_line_does c es vs = let b = block_does [] (map (print_one ln) es) (each_print es vs) in record {
-      typed = λ gs h bs f room. let le = low c gs h bs f in
+    pub print_line_does : (c : List Around) (es : List Piece) → Each (Value k) es → Does k c (print_line ln es)
+    print_line_does c es vs = let b = block_does k [] (map (print_one ln) es) (each_print es vs) in record {
+      typed = λ gs h bs f room. let le = low k c gs h bs f in
           template_typed k ln 0 0 (Alone (row (map (print_one ln) es)) ∷ Op PrintNewline ∷ []) [] gs _ _ refl refl (
             sh h bs,
             b.typed [] h bs le (omega (arith, room)),
@@ -502,9 +429,9 @@ module _ (k : Limits) where
     }
 
     pub import_does : (c : List Around) (t : Constant) (x : Home) → IsHome x → IsKnown k (Const t) →
-        Does c (import_one ln t x)
+        Does k c (import_one ln t x)
     import_does c t x ix kn = record {
-      typed = λ gs h bs f room. let le = low c gs h bs f in
+      typed = λ gs h bs f room. let le = low k c gs h bs f in
           template_typed k ln 0 0 (Op (Const t) ∷ Op (store x) ∷ []) [] gs _ _ refl refl (
             sh (h + 1) bs,
             op k (Const t) h (h + 1) bs refl kn (omega (arith, le)) (omega (arith, room)) (omega arith),
@@ -512,9 +439,9 @@ module _ (k : Limits) where
           );
     }
 
-    pub raise_one_does : (c : List Around) (e : Piece) → Value k e → Leaves c (raise_one ln e)
+    pub raise_one_does : (c : List Around) (e : Piece) → Value k e → Leaves k c (raise_one ln e)
     raise_one_does c e ve = record {
-      typed = λ gs h bs s f room. let le = low c gs h bs f in
+      typed = λ gs h bs s f room. let le = low k c gs h bs f in
           template_typed k ln 0 0 (Alone e ∷ Op (MakeRaised 0) ∷ Op Raise ∷ []) [] gs _ _ refl refl (
             sh (h + 1) bs,
             ve.typed h bs le (omega (arith, room)),
@@ -527,9 +454,9 @@ module _ (k : Limits) where
           );
     }
 
-    pub raise_two_does : (c : List Around) (e v : Piece) → Value k e → Value k v → Leaves c (raise_two ln e v)
+    pub raise_two_does : (c : List Around) (e v : Piece) → Value k e → Value k v → Leaves k c (raise_two ln e v)
     raise_two_does c e v ve vv = record {
-      typed = λ gs h bs s f room. let le = low c gs h bs f in
+      typed = λ gs h bs s f room. let le = low k c gs h bs f in
           template_typed k ln 0 0 (Alone e ∷ Alone v ∷ Op (MakeRaised 1) ∷ Op Raise ∷ []) [] gs _ _ refl refl (
             sh (h + 1) bs,
             ve.typed h bs le (omega (arith, room)),
@@ -554,12 +481,18 @@ module _ (k : Limits) where
     not_op : (h : ℕ) (bs : List ℕ) → floor_of bs ≤ h → h + 4 < 2 ^ 32 → Goes k Not (sh (h + 1) bs) (sh (h + 1) bs)
     not_op h bs le room = op k Not (h + 1) (h + 1) bs refl tt (omega (arith, le)) (omega (arith, room)) (omega arith)
 
-    pub assert_with_does : (c : List Around) (t m : Piece) → 13 < k.cells → 0 < length k.keys → get_or k.keys 0 [] ≡ []
-        → Value k t → Value k m → Does c (assert_with ln t m)
-    assert_with_does c t m root some none vt vm = record {
-      typed = λ gs h bs f room. let le = low c gs h bs f in
-          template_typed k ln 0 1 (Alone t ∷ Op Not ∷ To 0 JumpFalse E ∷ Op (Const (Root 13)) ∷ Alone m ∷ Op (Call 1 0)
-          ∷ Op Raise ∷ Here E ∷ []) (Some (sh h bs) ∷ []) gs _ _ refl refl (
+    -- behind the test of an `assert`
+    abbrev tested : Piece → List Part → List Part
+    tested t more = Alone t ∷ Op Not ∷ To 0 JumpFalse E ∷ Op (Const (Root 13)) ∷ more
+
+    tested_does : (c : List Around) (t : Piece) (more : List Part) → 13 < k.cells → Value k t →
+        IsTrue (all_stand 1 more) → ((gs : List Ring) (h : ℕ) (bs : List ℕ) → floor_of bs ≤ h →
+        Room h (template ln 0 1 (tested t more)) →
+        PartsOk k (own_ring 0 (Some (sh h bs) ∷ []) ∷ gs) (sh (h + 1) bs) more (sh h bs)) →
+        Does k c (template ln 0 1 (tested t more))
+    tested_does c t more root vt st rest = record {
+      typed = λ gs h bs f room. let le = low k c gs h bs f in
+          template_typed k ln 0 1 (tested t more) (Some (sh h bs) ∷ []) gs _ _ refl st (
             sh (h + 1) bs,
             vt.typed h bs le (omega (arith, room)),
             (
@@ -568,57 +501,31 @@ module _ (k : Limits) where
               (
                 sh h bs,
                 (sh h bs, refl, jump_false k h bs le (omega (arith, room))),
-                (
-                  sh (h + 1) bs,
-                  root_op h bs root le (omega (arith, room)),
-                  (
-                    sh (h + 1 + 1) bs,
-                    vm.typed (h + 1) bs (omega (arith, le)) (omega (arith, room)),
-                    (
-                      sh (h + 1) bs,
-                      op k (Call 1 0) (h + 1 + 1) (h + 1) bs refl (some, rw none (no_keys k))
-                          (omega (arith, le, ap length none)) (omega (arith, room)) (omega (arith, ap length none)),
-                      (
-                        sh h bs,
-                        raise_op k h bs (sh h bs) le (omega (arith, room)),
-                        (sh h bs, (refl, refl), refl),
-                      ),
-                    ),
-                  ),
-                ),
+                (sh (h + 1) bs, root_op h bs root le (omega (arith, room)), rest gs h bs le room),
               ),
             ),
           );
     }
 
-    pub assert_alone_does : (c : List Around) (t : Piece) → 13 < k.cells → Value k t → Does c (assert_alone ln t)
-    assert_alone_does c t root vt = record {
-      typed = λ gs h bs f room. let le = low c gs h bs f in
-          template_typed k ln 0 1 (Alone t ∷ Op Not ∷ To 0 JumpFalse E ∷ Op (Const (Root 13)) ∷ Op (MakeRaised 0) ∷ Op
-          Raise ∷ Here E ∷ []) (Some (sh h bs) ∷ []) gs _ _ refl refl (
+    pub assert_with_does : (c : List Around) (t m : Piece) → 13 < k.cells → 0 < length k.keys → get_or k.keys 0 [] ≡ []
+        → Value k t → Value k m → Does k c (assert_with ln t m)
+    assert_with_does c t m root some none vt vm =
+        tested_does c t (Alone m ∷ Op (Call 1 0) ∷ Op Raise ∷ Here E ∷ []) root vt refl (λ gs h bs le room. (
+          sh (h + 1 + 1) bs,
+          vm.typed (h + 1) bs (omega (arith, le)) (omega (arith, room)),
+          (
             sh (h + 1) bs,
-            vt.typed h bs le (omega (arith, room)),
-            (
-              sh (h + 1) bs,
-              not_op h bs le (omega (arith, room)),
-              (
-                sh h bs,
-                (sh h bs, refl, jump_false k h bs le (omega (arith, room))),
-                (
-                  sh (h + 1) bs,
-                  root_op h bs root le (omega (arith, room)),
-                  (
-                    sh (h + 1) bs,
-                    op k (MakeRaised 0) (h + 1) (h + 1) bs refl (omega arith) (omega (arith, le)) (omega (arith, room))
-                        (omega arith),
-                    (
-                      sh h bs,
-                      raise_op k h bs (sh h bs) le (omega (arith, room)),
-                      (sh h bs, (refl, refl), refl),
-                    ),
-                  ),
-                ),
-              ),
-            ),
-          );
-    }
+            op k (Call 1 0) (h + 1 + 1) (h + 1) bs refl (some, rw none (no_keys k))
+                (omega (arith, le, ap length none)) (omega (arith, room)) (omega (arith, ap length none)),
+            (sh h bs, raise_op k h bs (sh h bs) le (omega (arith, room)), (sh h bs, (refl, refl), refl)),
+          ),
+        ))
+
+    pub assert_alone_does : (c : List Around) (t : Piece) → 13 < k.cells → Value k t → Does k c (assert_alone ln t)
+    assert_alone_does c t root vt =
+        tested_does c t (Op (MakeRaised 0) ∷ Op Raise ∷ Here E ∷ []) root vt refl (λ gs h bs le room. (
+          sh (h + 1) bs,
+          op k (MakeRaised 0) (h + 1) (h + 1) bs refl (omega arith) (omega (arith, le)) (omega (arith, room))
+              (omega arith),
+          (sh h bs, raise_op k h bs (sh h bs) le (omega (arith, room)), (sh h bs, (refl, refl), refl)),
+        ))

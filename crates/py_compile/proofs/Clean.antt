@@ -1,9 +1,9 @@
 -- Which instructions stand in the code of a body, reached or not: expressions.
-use Rattle.std.proofs.Common.{◌≡◌, ◌∙◌, ℕ, ℤ, ◌+◌, ◌<◌, List, [], ◌∷◌, ◌++◌, Option, Some, None, Bool, true, false, refl, sym, ap, subst, length, map, drop}
+use Rattle.std.proofs.Common.{◌≡◌, ◌∙◌, ℕ, ℤ, ◌+◌, List, [], ◌∷◌, ◌++◌, Option, Some, None, Bool, true, false, refl, sym, ap, subst, length, map, drop}
 use Rattle.std.specs.Prelude.{if◌then◌else◌}
 use Rattle.py_code.specs.declared.instr.Constant.TheVariants.{None as NoValue, Root, Int as IntValue}
 use Rattle.py_code.specs.declared.instr.Instr.{Instr}
-use Rattle.py_code.specs.declared.instr.Instr.TheVariants.{Setup, Const, Pop, Dup, Rot2, Dup2, Rot3, LoadName, StoreName, DelName, LoadAttr, StoreAttr, DelAttr, LoadMethod, LoadItem, StoreItem, DelItem, Slice, Unary, Not, Binary, InPlace, Compare, Jump, JumpFalse, KeepFalse, KeepTrue, BuildTuple, BuildList, BuildDict, Unpack, Call, CallMethod, MakeFunction, ClassBody}
+use Rattle.py_code.specs.declared.instr.Instr.TheVariants.{Const, Pop, Dup, Rot2, Dup2, Rot3, LoadAttr, StoreAttr, DelAttr, LoadMethod, LoadItem, StoreItem, DelItem, Slice, Unary, Not, Binary, InPlace, Compare, Jump, JumpFalse, KeepFalse, KeepTrue, BuildTuple, BuildList, BuildDict, Unpack, Call, CallMethod}
 use Rattle.py_base.specs.declared.operator.binary.TheConstants.{POWER}
 use Rattle.py_tree.specs.declared.expr.Expr.{Expr}
 use Rattle.py_tree.specs.declared.expr.Trailer.{Trailer}
@@ -28,41 +28,25 @@ use Rattle.py_compile.specs.inner.Tallies.{read_links, read_pairs, read_named, r
 use Rattle.py_compile.proofs.Used as uses
 use Rattle.py_compile.proofs.ExprInduct.{Every, IfThere, OfLink, OfNamed, OfPair, expr_induct, every_front, every_back, every_join}
 use Rattle.py_compile.proofs.Homes.{find_some}
-
--- what may stand in the code of a body that is a class's or not: by which names have cells, and which codes are
--- classes' bodies
-abbrev pub Fit : (ℕ → Type 0) → (ℕ → Bool) → Bool → Instr → Type 0
-Fit ok flags z Setup = ⊥
-Fit ok flags z (LoadName r) = (z ≡ true) × ok r
-Fit ok flags z (StoreName r) = z ≡ true
-Fit ok flags z (DelName r) = z ≡ true
-Fit ok flags z (MakeFunction f d) = (0 < f) × (flags f ≡ false)
-Fit ok flags z (ClassBody f) = (0 < f) × (flags f ≡ true)
-Fit ok flags z _ = Unit {0}
-
--- uses whose names are in their lists
-abbrev pub NoteOk : (List ℕ → Type 0) → (List ℕ → Type 0) → Use → Type 0
-NoteOk to go (Text x) = to x
-NoteOk to go (Global x) = go x
-NoteOk to go (Keys c ks) = Unit {0}
+use Rattle.py_compile.proofs.Fit.{Fit, NoteOk}
 
 module _ (ok : ℕ → Type 0) (flags : ℕ → Bool) (z : Bool) where
-  abbrev pub Q : Instr → Type 0
-  Q i = Fit ok flags z i
+  abbrev pub Good : Instr → Type 0
+  Good i = Fit ok flags z i
 
   -- each instruction of a piece, wherever it stands
   abbrev pub IsClean : Piece → Type 0
-  IsClean b = (env : List Frame) (p h : ℕ) → Every Q (b.code env p h)
+  IsClean b = (env : List Frame) (p h : ℕ) → Every Good (b.code env p h)
 
   abbrev pub PartClean : Part → Type 0
-  PartClean (Op i) = Q i
-  PartClean (Hidden d j) = (s : ℕ) → Q (j s)
-  PartClean (To d j l) = (q : ℕ) → Q (j q)
+  PartClean (Op i) = Good i
+  PartClean (Hidden d j) = (s : ℕ) → Good (j s)
+  PartClean (To d j l) = (q : ℕ) → Good (j q)
   PartClean (Here l) = Unit {0}
   PartClean (Alone b) = IsClean b
   PartClean (Sub d b) = IsClean b
 
-  part_clean : (x : Part) → PartClean x → (env : List Frame) (p h : ℕ) → Every Q (part_code env x p h)
+  part_clean : (x : Part) → PartClean x → (env : List Frame) (p h : ℕ) → Every Good (part_code env x p h)
   part_clean (Op i) c env p h = (c, tt)
   part_clean (Hidden d j) c env p h = (c (slot_at env d), tt)
   part_clean (To d j l) c env p h = (c (label_at env d l), tt)
@@ -70,9 +54,10 @@ module _ (ok : ℕ → Type 0) (flags : ℕ → Bool) (z : Bool) where
   part_clean (Alone b) c env p h = c [] p h
   part_clean (Sub d b) c env p h = c (drop d env) p h
 
-  pub parts_clean : (xs : List Part) → Every PartClean xs → (env : List Frame) (p h : ℕ) → Every Q (code_of env xs p h)
+  pub parts_clean : (xs : List Part) → Every PartClean xs → (env : List Frame) (p h : ℕ) →
+      Every Good (code_of env xs p h)
   parts_clean [] c env p h = tt
-  parts_clean (x ∷ xs) c env p h = every_join Q (part_code env x p h)
+  parts_clean (x ∷ xs) c env p h = every_join Good (part_code env x p h)
       (code_of env xs (p + part_size x) (h + part_slots x)) (part_clean x c.0 env p h)
       (parts_clean xs c.1 env (p + part_size x) (h + part_slots x))
 
@@ -87,14 +72,14 @@ module _ (ok : ℕ → Type 0) (flags : ℕ → Bool) (z : Bool) where
   pub row_clean : (ps : List Piece) → Every IsClean ps → IsClean (row ps)
   row_clean ps c = template_clean 0 0 0 (map (Sub 1) ps) (rows_clean ps c)
 
-  pub one_clean : (ln : ℕ) (i : Instr) → Q i → IsClean (one ln i)
+  pub one_clean : (ln : ℕ) (i : Instr) → Good i → IsClean (one ln i)
   one_clean ln i q = template_clean ln 0 0 (Op i ∷ []) (q, tt)
 
   -- operators
   abbrev LinksClean : List (ℕ × Piece) → Type 0
   LinksClean xs = Every (λ x. IsClean x.1) xs
 
-  firsts_clean : (ln : ℕ) (j : ℕ → Instr) (a : Piece) (xs : List (ℕ × Piece)) → ((q : ℕ) → Q (j q)) → IsClean a →
+  firsts_clean : (ln : ℕ) (j : ℕ → Instr) (a : Piece) (xs : List (ℕ × Piece)) → ((q : ℕ) → Good (j q)) → IsClean a →
       LinksClean xs → Every IsClean (firsts ln j a xs)
   firsts_clean ln j a [] i c h = tt
   firsts_clean ln j a (x ∷ xs) i c h = (
@@ -106,7 +91,7 @@ module _ (ok : ℕ → Type 0) (flags : ℕ → Bool) (z : Bool) where
   last_clean ln a [] c h = c
   last_clean ln a (x ∷ xs) c h = last_clean ln x.1 xs h.0 h.1
 
-  logical_clean : (ln : ℕ) (j : ℕ → Instr) (a : Piece) (xs : List (ℕ × Piece)) → ((q : ℕ) → Q (j q)) → IsClean a →
+  logical_clean : (ln : ℕ) (j : ℕ → Instr) (a : Piece) (xs : List (ℕ × Piece)) → ((q : ℕ) → Good (j q)) → IsClean a →
       LinksClean xs → IsClean (all_kept ln (firsts ln j a xs) (last_operand ln a xs))
   logical_clean ln j a xs i c h = template_clean ln 0 1
       (Sub 0 (row (firsts ln j a xs)) ∷ Alone (last_operand ln a xs) ∷ Here E ∷ [])
@@ -188,74 +173,76 @@ module _ (ok : ℕ → Type 0) (flags : ℕ → Bool) (z : Bool) where
   module _ (n : Known) (b : Inside) (names : n.locals ≡ b.locals) (kind : n.is_class ≡ b.is_class)
       (class : n.is_class ≡ z) (to go : List ℕ → Type 0) (both : (x : List ℕ) → to x → go x → ok (text n x))
       (free : (x : List ℕ) → is_none x ≡ true → has x n.locals ≡ false) where
-    abbrev pub NW : List Use → Type 0
-    NW us = Every (NoteOk to go) us
+    abbrev pub Noted : List Use → Type 0
+    Noted us = Every (NoteOk to go) us
 
-    front : (a c : List Use) → NW (a ++ c) → NW a
+    front : (a c : List Use) → Noted (a ++ c) → Noted a
     front a c h = every_front (NoteOk to go) a c h
 
-    back : (a c : List Use) → NW (a ++ c) → NW c
+    back : (a c : List Use) → Noted (a ++ c) → Noted c
     back a c h = every_back (NoteOk to go) a c h
 
-    own_load : (x : List ℕ) (i : ℕ) (c : Bool) → n.is_class ≡ c → NW (own_read c x) →
-        Q (load (if c then Body (text n x) else Slot i))
+    own_load : (x : List ℕ) (i : ℕ) (c : Bool) → n.is_class ≡ c → Noted (own_read c x) →
+        Good (load (if c then Body (text n x) else Slot i))
     own_load x i true e w = (sym class ∙ e, both x w.0 w.1.0)
     own_load x i false e w = tt
 
-    own_store : (x : List ℕ) (i : ℕ) (c : Bool) → n.is_class ≡ c → Q (store (if c then Body (text n x) else Slot i))
+    own_store : (x : List ℕ) (i : ℕ) (c : Bool) → n.is_class ≡ c → Good (store (if c then Body (text n x) else Slot i))
     own_store x i true e = sym class ∙ e
     own_store x i false e = tt
 
-    own_del : (x : List ℕ) (i : ℕ) (c : Bool) → n.is_class ≡ c → Q (del (if c then Body (text n x) else Slot i))
+    own_del : (x : List ℕ) (i : ℕ) (c : Bool) → n.is_class ≡ c → Good (del (if c then Body (text n x) else Slot i))
     own_del x i true e = sym class ∙ e
     own_del x i false e = tt
 
-    pub store_clean : (x : List ℕ) → Q (store (home n x))
+    pub store_clean : (x : List ℕ) → Good (store (home n x))
     store_clean x = by_find (find_name x n.locals) refl
       where
-        by_find : (o : Option ℕ) → find_name x n.locals ≡ o → Q (store (home n x))
-        by_find None e = subst (λ h. Q (store h)) (sym (ap (home_at n x) e)) tt
-        by_find (Some i) e = subst (λ h. Q (store h)) (sym (ap (home_at n x) e)) (own_store x i n.is_class refl)
+        by_find : (o : Option ℕ) → find_name x n.locals ≡ o → Good (store (home n x))
+        by_find None e = subst (λ h. Good (store h)) (sym (ap (home_at n x) e)) tt
+        by_find (Some i) e = subst (λ h. Good (store h)) (sym (ap (home_at n x) e)) (own_store x i n.is_class refl)
 
-    pub del_clean : (x : List ℕ) → Q (del (home n x))
+    pub del_clean : (x : List ℕ) → Good (del (home n x))
     del_clean x = by_find (find_name x n.locals) refl
       where
-        by_find : (o : Option ℕ) → find_name x n.locals ≡ o → Q (del (home n x))
-        by_find None e = subst (λ h. Q (del h)) (sym (ap (home_at n x) e)) tt
-        by_find (Some i) e = subst (λ h. Q (del h)) (sym (ap (home_at n x) e)) (own_del x i n.is_class refl)
+        by_find : (o : Option ℕ) → find_name x n.locals ≡ o → Good (del (home n x))
+        by_find None e = subst (λ h. Good (del h)) (sym (ap (home_at n x) e)) tt
+        by_find (Some i) e = subst (λ h. Good (del h)) (sym (ap (home_at n x) e)) (own_del x i n.is_class refl)
 
-    load_if : (x : List ℕ) (c : Bool) → is_none x ≡ c → NW (name_read b x) → (i : ℕ) → find_name x n.locals ≡ Some i →
-        NW (own_read n.is_class x)
+    load_if : (x : List ℕ) (c : Bool) → is_none x ≡ c → Noted (name_read b x) → (i : ℕ) →
+        find_name x n.locals ≡ Some i →
+        Noted (own_read n.is_class x)
     load_if x true e w i f = let s = (find_some x n.locals i f).0 in let m = free x e in absurd (cc)
     load_if x false e w i f =
         let h : has x b.locals ≡ true = ap (has x) (sym names) ∙ (find_some x n.locals i f).0 in
-        let a : NW (if has x b.locals then own_read b.is_class x else Global x ∷ []) =
-        subst (λ y. NW (if y then [] else (if has x b.locals then own_read b.is_class x else Global x ∷ []))) e w in
-        let d : NW (own_read b.is_class x) = subst (λ y. NW (if y then own_read b.is_class x else Global x ∷ [])) h a in
-        subst (λ y. NW (own_read y x)) (sym kind) d
+        let a : Noted (if has x b.locals then own_read b.is_class x else Global x ∷ []) =
+        subst (λ y. Noted (if y then [] else (if has x b.locals then own_read b.is_class x else Global x ∷ []))) e w in
+        let d : Noted (own_read b.is_class x) =
+        subst (λ y. Noted (if y then own_read b.is_class x else Global x ∷ [])) h a in
+        subst (λ y. Noted (own_read y x)) (sym kind) d
 
-    pub load_clean : (x : List ℕ) → NW (name_read b x) → Q (load (home n x))
+    pub load_clean : (x : List ℕ) → Noted (name_read b x) → Good (load (home n x))
     load_clean x w = by_find (find_name x n.locals) refl
       where
-        by_find : (o : Option ℕ) → find_name x n.locals ≡ o → Q (load (home n x))
-        by_find None e = subst (λ h. Q (load h)) (sym (ap (home_at n x) e)) tt
-        by_find (Some i) e = subst (λ h. Q (load h)) (sym (ap (home_at n x) e))
+        by_find : (o : Option ℕ) → find_name x n.locals ≡ o → Good (load (home n x))
+        by_find None e = subst (λ h. Good (load h)) (sym (ap (home_at n x) e)) tt
+        by_find (Some i) e = subst (λ h. Good (load h)) (sym (ap (home_at n x) e))
             (own_load x i n.is_class refl (load_if x (is_none x) refl w i e))
 
     pub record ECl (x : Expr) : Type 0 where
-      pub value : (ln : ℕ) → NW (read b x) → IsClean (value n ln x)
-      pub place : (ln : ℕ) → NW (target b x) → PlaceClean ln (coded n ln x).place
-      pub add : (ln o : ℕ) (y : Piece) → NW (read b x) → IsClean y → IsClean (add_at ln (coded n ln x).place o y)
+      pub value : (ln : ℕ) → Noted (read b x) → IsClean (value n ln x)
+      pub place : (ln : ℕ) → Noted (target b x) → PlaceClean ln (coded n ln x).place
+      pub add : (ln o : ℕ) (y : Piece) → Noted (read b x) → IsClean y → IsClean (add_at ln (coded n ln x).place o y)
 
     pub record TCl (x : Trailer) : Type 0 where
-      pub parts : (ln : ℕ) → NW (used_trailer b x) → TrailedClean (coded_trailer n ln x)
+      pub parts : (ln : ℕ) → Noted (used_trailer b x) → TrailedClean (coded_trailer n ln x)
 
     -- no target
     no_place : (ln : ℕ) → PlaceClean ln NoPlace
     no_place ln = record { store = nothing_clean ln; delete = nothing_clean ln }
 
     plain : (x : Expr) → ((ln : ℕ) → (coded n ln x).place ≡ NoPlace) →
-        ((ln : ℕ) → NW (read b x) → IsClean (value n ln x)) → ECl x
+        ((ln : ℕ) → Noted (read b x) → IsClean (value n ln x)) → ECl x
     plain x e v = record {
       value = v;
       place = λ ln w. subst (PlaceClean ln) (sym (e ln)) (no_place ln);
@@ -263,14 +250,14 @@ module _ (ok : ℕ → Type 0) (flags : ℕ → Bool) (z : Bool) where
           λ ln o y w c. subst (λ p. IsClean (add_at ln p o y)) (sym (e ln)) (nothing_clean ln);
     }
 
-    pub values_clean : (ln : ℕ) (xs : List Expr) → Every ECl xs → NW (read_all b xs) → Every IsClean (values n ln xs)
+    pub values_clean : (ln : ℕ) (xs : List Expr) → Every ECl xs → Noted (read_all b xs) → Every IsClean (values n ln xs)
     values_clean ln [] os w = tt
     values_clean ln (x ∷ xs) os w = (
       os.0.value ln (front (read b x) (read_all b xs) w),
       values_clean ln xs os.1 (back (read b x) (read_all b xs) w),
     )
 
-    pub stores_clean : (ln : ℕ) (xs : List Expr) → Every ECl xs → NW (target_all b xs) →
+    pub stores_clean : (ln : ℕ) (xs : List Expr) → Every ECl xs → Noted (target_all b xs) →
         Every IsClean (all_stored n ln xs)
     stores_clean ln [] os w = tt
     stores_clean ln (x ∷ xs) os w = (
@@ -278,7 +265,7 @@ module _ (ok : ℕ → Type 0) (flags : ℕ → Bool) (z : Bool) where
       stores_clean ln xs os.1 (back (target b x) (target_all b xs) w),
     )
 
-    pub deletes_clean : (ln : ℕ) (xs : List Expr) → Every ECl xs → NW (target_all b xs) →
+    pub deletes_clean : (ln : ℕ) (xs : List Expr) → Every ECl xs → Noted (target_all b xs) →
         Every IsClean (all_deleted n ln xs)
     deletes_clean ln [] os w = tt
     deletes_clean ln (x ∷ xs) os w = (
@@ -286,7 +273,7 @@ module _ (ok : ℕ → Type 0) (flags : ℕ → Bool) (z : Bool) where
       deletes_clean ln xs os.1 (back (target b x) (target_all b xs) w),
     )
 
-    spread_clean : (ln : ℕ) (xs : List Expr) → Every ECl xs → NW (target_all b xs) →
+    spread_clean : (ln : ℕ) (xs : List Expr) → Every ECl xs → Noted (target_all b xs) →
         PlaceClean ln (Spread (to_all ln (all_stored n ln xs)) (row (all_deleted n ln xs)))
     spread_clean ln xs os w = record {
       store = template_clean ln 0 0 (Op (Unpack (length (all_stored n ln xs))) ∷ Alone (row (all_stored n ln xs)) ∷ [])
@@ -294,7 +281,7 @@ module _ (ok : ℕ → Type 0) (flags : ℕ → Bool) (z : Bool) where
       delete = row_clean (all_deleted n ln xs) (deletes_clean ln xs os w);
     }
 
-    links_parts : (ln : ℕ) (ls : List Link) → Every (OfLink ECl TCl) ls → NW (read_links b ls) →
+    links_parts : (ln : ℕ) (ls : List Link) → Every (OfLink ECl TCl) ls → Noted (read_links b ls) →
         Every (λ x. IsClean x.1) (linked n ln ls)
     links_parts ln [] os w = tt
     links_parts ln (l ∷ ls) os w = (
@@ -302,7 +289,7 @@ module _ (ok : ℕ → Type 0) (flags : ℕ → Bool) (z : Bool) where
       links_parts ln ls os.1 (back (read b l.operand) (read_links b ls) w),
     )
 
-    pairs_clean : (ln : ℕ) (ps : List Pair) → Every (OfPair ECl TCl) ps → NW (read_pairs b ps) →
+    pairs_clean : (ln : ℕ) (ps : List Pair) → Every (OfPair ECl TCl) ps → Noted (read_pairs b ps) →
         Every IsClean (pairs n ln ps)
     pairs_clean ln [] os w = tt
     pairs_clean ln (p ∷ ps) os w =
@@ -314,7 +301,7 @@ module _ (ok : ℕ → Type 0) (flags : ℕ → Bool) (z : Bool) where
           pairs_clean ln ps os.1 (back (read b p.key ++ read b p.value) (read_pairs b ps) w),
         )
 
-    named_clean : (ln : ℕ) (ks : List Named) → Every (OfNamed ECl TCl) ks → NW (read_named b ks) →
+    named_clean : (ln : ℕ) (ks : List Named) → Every (OfNamed ECl TCl) ks → Noted (read_named b ks) →
         Every IsClean (key_values n ln ks)
     named_clean ln [] os w = tt
     named_clean ln (x ∷ xs) os w =
@@ -323,11 +310,11 @@ module _ (ok : ℕ → Type 0) (flags : ℕ → Bool) (z : Bool) where
           named_clean ln xs os.1 (back (Text x.name ∷ read b x.value) (read_named b xs) w),
         )
 
-    pub some_clean : (ln : ℕ) (x : Option Expr) → IfThere ECl x → NW (read_some b x) → IsClean (value_some n ln x)
+    pub some_clean : (ln : ℕ) (x : Option Expr) → IfThere ECl x → Noted (read_some b x) → IsClean (value_some n ln x)
     some_clean ln None o w = one_clean ln (Const NoValue) tt
     some_clean ln (Some x) o w = o.value ln w
 
-    trailers_clean : (ln : ℕ) (ts : List Trailer) → Every TCl ts → NW (read_trailers b ts) →
+    trailers_clean : (ln : ℕ) (ts : List Trailer) → Every TCl ts → Noted (read_trailers b ts) →
         Every TrailedClean (trailers n ln ts)
     trailers_clean ln [] os w = tt
     trailers_clean ln (x ∷ xs) os w = (
@@ -406,7 +393,7 @@ module _ (ok : ℕ → Type 0) (flags : ℕ → Bool) (z : Bool) where
     clean_name : (x : List ℕ) → ECl (e.Name x)
     clean_name x = record {
       value = λ ln w.
-          let u : NW (name_read b x) = subst (λ q. NW q.read) (uses.used_name b x) w in
+          let u : Noted (name_read b x) = subst (λ q. Noted q.read) (uses.used_name b x) w in
           subst (λ q. IsClean q.value) (sym (rows.coded_name n ln x)) (by_none ln (is_none x) u);
       place = λ ln w. subst (λ q. PlaceClean ln q.place) (sym (rows.coded_name n ln x))
           (record {
@@ -415,13 +402,13 @@ module _ (ok : ℕ → Type 0) (flags : ℕ → Bool) (z : Bool) where
                 one_clean ln (del (home n x)) (del_clean x);
           });
       add = λ ln o y w c.
-          let u : NW (name_read b x) = subst (λ q. NW q.read) (uses.used_name b x) w in
+          let u : Noted (name_read b x) = subst (λ q. Noted q.read) (uses.used_name b x) w in
           subst (λ q. IsClean (add_at ln q.place o y)) (sym (rows.coded_name n ln x))
           (template_clean ln 0 0 (Op (load (home n x)) ∷ Alone y ∷ Op (InPlace o) ∷ Op (store (home n x)) ∷ [])
           (load_clean x u, (c, (tt, (store_clean x, tt)))));
     }
       where
-        by_none : (ln : ℕ) (c : Bool) → NW (name_read b x) →
+        by_none : (ln : ℕ) (c : Bool) → Noted (name_read b x) →
             IsClean (if c then constant ln NoValue else name ln (home n x))
         by_none ln true u = one_clean ln (Const NoValue) tt
         by_none ln false u = one_clean ln (load (home n x)) (load_clean x u)
@@ -437,22 +424,22 @@ module _ (ok : ℕ → Type 0) (flags : ℕ → Bool) (z : Bool) where
     clean_group : (a : Expr) → ECl a → ECl (e.Group a)
     clean_group a o = record {
       value = λ ln w. subst (λ q. IsClean q.value) (sym (rows.coded_group n ln a))
-          (o.value ln (subst (λ q. NW q.read) (uses.used_group b a) w));
+          (o.value ln (subst (λ q. Noted q.read) (uses.used_group b a) w));
       place = λ ln w. subst (λ q. PlaceClean ln q.place) (sym (rows.coded_group n ln a))
-          (o.place ln (subst (λ q. NW q.target) (uses.used_group b a) w));
+          (o.place ln (subst (λ q. Noted q.target) (uses.used_group b a) w));
       add = λ ln q y w c. subst (λ r. IsClean (add_at ln r.place q y)) (sym (rows.coded_group n ln a))
-          (o.add ln q y (subst (λ q. NW q.read) (uses.used_group b a) w) c);
+          (o.add ln q y (subst (λ q. Noted q.read) (uses.used_group b a) w) c);
     }
 
     clean_tuple : (xs : List Expr) → Every ECl xs → ECl (e.Tuple xs)
     clean_tuple xs os = record {
       value = λ ln w. subst (λ q. IsClean q.value) (sym (rows.coded_tuple n ln xs))
           (template_clean ln 0 0 (Alone (row (values n ln xs)) ∷ Op (BuildTuple (length xs)) ∷ []) (
-            row_clean (values n ln xs) (values_clean ln xs os (subst (λ q. NW q.read) (uses.used_tuple b xs) w)),
+            row_clean (values n ln xs) (values_clean ln xs os (subst (λ q. Noted q.read) (uses.used_tuple b xs) w)),
             (tt, tt),
           ));
       place = λ ln w. subst (λ q. PlaceClean ln q.place) (sym (rows.coded_tuple n ln xs))
-          (spread_clean ln xs os (subst (λ q. NW q.target) (uses.used_tuple b xs) w));
+          (spread_clean ln xs os (subst (λ q. Noted q.target) (uses.used_tuple b xs) w));
       add = λ ln q y w c. subst (λ r. IsClean (add_at ln r.place q y)) (sym (rows.coded_tuple n ln xs))
           (nothing_clean ln);
     }
@@ -461,11 +448,11 @@ module _ (ok : ℕ → Type 0) (flags : ℕ → Bool) (z : Bool) where
     clean_list xs os = record {
       value = λ ln w. subst (λ q. IsClean q.value) (sym (rows.coded_list n ln xs))
           (template_clean ln 0 0 (Alone (row (values n ln xs)) ∷ Op (BuildList (length xs)) ∷ []) (
-            row_clean (values n ln xs) (values_clean ln xs os (subst (λ q. NW q.read) (uses.used_list b xs) w)),
+            row_clean (values n ln xs) (values_clean ln xs os (subst (λ q. Noted q.read) (uses.used_list b xs) w)),
             (tt, tt),
           ));
       place = λ ln w. subst (λ q. PlaceClean ln q.place) (sym (rows.coded_list n ln xs))
-          (spread_clean ln xs os (subst (λ q. NW q.target) (uses.used_list b xs) w));
+          (spread_clean ln xs os (subst (λ q. Noted q.target) (uses.used_list b xs) w));
       add = λ ln q y w c. subst (λ r. IsClean (add_at ln r.place q y)) (sym (rows.coded_list n ln xs))
           (nothing_clean ln);
     }
@@ -473,8 +460,10 @@ module _ (ok : ℕ → Type 0) (flags : ℕ → Bool) (z : Bool) where
     clean_dict : (ps : List Pair) → Every (OfPair ECl TCl) ps → ECl (e.Dict ps)
     clean_dict ps os = plain (e.Dict ps) (λ ln. ap (λ q. q.place) (rows.coded_dict n ln ps))
         (λ ln w. subst (λ q. IsClean q.value) (sym (rows.coded_dict n ln ps))
-        (template_clean ln 0 0 (Alone (row (pairs n ln ps)) ∷ Op (BuildDict (length ps)) ∷ [])
-        (row_clean (pairs n ln ps) (pairs_clean ln ps os (subst (λ q. NW q.read) (uses.used_dict b ps) w)), (tt, tt))))
+        (template_clean ln 0 0 (Alone (row (pairs n ln ps)) ∷ Op (BuildDict (length ps)) ∷ []) (
+          row_clean (pairs n ln ps) (pairs_clean ln ps os (subst (λ q. Noted q.read) (uses.used_dict b ps) w)),
+          (tt, tt),
+        )))
 
     clean_trail : (a : Expr) (ts : List Trailer) → ECl a → Every TCl ts → ECl (e.Trail a ts)
     clean_trail a ts o os = record {
@@ -482,7 +471,7 @@ module _ (ok : ℕ → Type 0) (flags : ℕ → Bool) (z : Bool) where
           (trailed_clean ln (value n ln a) (trailers n ln ts) (o.value ln (front (read b a) (read_trailers b ts) u))
           (trailers_clean ln ts os (back (read b a) (read_trailers b ts) u)));
       place = λ ln w.
-          let u : NW (read b a ++ read_trailers b ts) = subst (λ q. NW q.target) (uses.used_trail b a ts) w in
+          let u : Noted (read b a ++ read_trailers b ts) = subst (λ q. Noted q.target) (uses.used_trail b a ts) w in
           let r = trailers_clean ln ts os (back (read b a) (read_trailers b ts) u) in
           subst (λ q. PlaceClean ln q.place) (sym (rows.coded_trail n ln a ts))
           (place_by_clean ln (trailed n ln (value n ln a) (front_of (trailers n ln ts))) (trailers n ln ts)
@@ -495,17 +484,17 @@ module _ (ok : ℕ → Type 0) (flags : ℕ → Bool) (z : Bool) where
           (object ln u r) r q y c);
     }
       where
-        reads : NW (read b (e.Trail a ts)) → NW (read b a ++ read_trailers b ts)
-        reads w = subst (λ q. NW q.read) (uses.used_trail b a ts) w
+        reads : Noted (read b (e.Trail a ts)) → Noted (read b a ++ read_trailers b ts)
+        reads w = subst (λ q. Noted q.read) (uses.used_trail b a ts) w
 
-        object : (ln : ℕ) → NW (read b a ++ read_trailers b ts) → Every TrailedClean (trailers n ln ts) →
+        object : (ln : ℕ) → Noted (read b a ++ read_trailers b ts) → Every TrailedClean (trailers n ln ts) →
             IsClean (trailed n ln (value n ln a) (front_of (trailers n ln ts)))
         object ln u r = trailed_clean ln (value n ln a) (front_of (trailers n ln ts))
             (o.value ln (front (read b a) (read_trailers b ts) u)) (front_clean (trailers n ln ts) r)
 
     clean_power : (a d : Expr) → ECl a → ECl d → ECl (e.Power a d)
     clean_power a d o q = plain (e.Power a d) (λ ln. ap (λ q. q.place) (rows.coded_power n ln a d)) (λ ln w.
-        let u : NW (read b a ++ read b d) = subst (λ q. NW q.read) (uses.used_power b a d) w in
+        let u : Noted (read b a ++ read b d) = subst (λ q. Noted q.read) (uses.used_power b a d) w in
         subst (λ q. IsClean q.value) (sym (rows.coded_power n ln a d))
         (template_clean ln 0 0 (Alone (value n ln a) ∷ Alone (value n ln d) ∷ Op (Binary POWER) ∷ [])
         (o.value ln (front (read b a) (read b d) u), (q.value ln (back (read b a) (read b d) u), (tt, tt)))))
@@ -514,11 +503,11 @@ module _ (ok : ℕ → Type 0) (flags : ℕ → Bool) (z : Bool) where
     clean_unary g a o = plain (e.Unary g a) (λ ln. ap (λ q. q.place) (rows.coded_unary n ln g a))
         (λ ln w. subst (λ q. IsClean q.value) (sym (rows.coded_unary n ln g a))
         (template_clean ln 0 0 (Alone (value n ln a) ∷ Op (Unary (sign_number g)) ∷ [])
-        (o.value ln (subst (λ q. NW q.read) (uses.used_unary b g a) w), (tt, tt))))
+        (o.value ln (subst (λ q. Noted q.read) (uses.used_unary b g a) w), (tt, tt))))
 
     clean_chain : (l : Level) (a : Expr) (ls : List Link) → ECl a → Every (OfLink ECl TCl) ls → ECl (e.Chain l a ls)
     clean_chain l a ls o os = plain (e.Chain l a ls) (λ ln. ap (λ q. q.place) (rows.coded_chain n ln l a ls)) (λ ln w.
-        let u : NW (read b a ++ read_links b ls) = subst (λ q. NW q.read) (uses.used_chain b l a ls) w in
+        let u : Noted (read b a ++ read_links b ls) = subst (λ q. Noted q.read) (uses.used_chain b l a ls) w in
         subst (λ q. IsClean q.value) (sym (rows.coded_chain n ln l a ls))
         (chain_clean ln l (value n ln a) (linked n ln ls) (o.value ln (front (read b a) (read_links b ls) u))
         (links_parts ln ls os (back (read b a) (read_links b ls) u))))
@@ -527,11 +516,11 @@ module _ (ok : ℕ → Type 0) (flags : ℕ → Bool) (z : Bool) where
     clean_not a o = plain (e.Not a) (λ ln. ap (λ q. q.place) (rows.coded_not n ln a))
         (λ ln w. subst (λ q. IsClean q.value) (sym (rows.coded_not n ln a))
         (template_clean ln 0 0 (Alone (value n ln a) ∷ Op Not ∷ [])
-        (o.value ln (subst (λ q. NW q.read) (uses.used_not b a) w), (tt, tt))))
+        (o.value ln (subst (λ q. Noted q.read) (uses.used_not b a) w), (tt, tt))))
 
     clean_choice : (a d g : Expr) → ECl a → ECl d → ECl g → ECl (e.Choice a d g)
     clean_choice a d g o q r = plain (e.Choice a d g) (λ ln. ap (λ q. q.place) (rows.coded_choice n ln a d g)) (λ ln w.
-        let u : NW (read b a ++ read b d ++ read b g) = subst (λ q. NW q.read) (uses.used_choice b a d g) w in
+        let u : Noted (read b a ++ read b d ++ read b g) = subst (λ q. Noted q.read) (uses.used_choice b a d g) w in
         let v = front (read b a ++ read b d) (read b g) u in
         subst (λ q. IsClean q.value) (sym (rows.coded_choice n ln a d g))
         (template_clean ln 0 2 (Alone (value n ln d) ∷ To 0 JumpFalse N ∷ Alone (value n ln a) ∷ To 0 Jump E ∷ Here
@@ -552,13 +541,13 @@ module _ (ok : ℕ → Type 0) (flags : ℕ → Bool) (z : Bool) where
     clean_index : (a : Expr) → ECl a → TCl (t.Index a)
     clean_index a o = record {
       parts = λ ln w.
-          subst TrailedClean (sym (rows.coded_index n ln a)) (o.value ln (subst NW (uses.used_index b a) w));
+          subst TrailedClean (sym (rows.coded_index n ln a)) (o.value ln (subst Noted (uses.used_index b a) w));
     }
 
     clean_slice : (a d : Option Expr) → IfThere ECl a → IfThere ECl d → TCl (t.Slice a d)
     clean_slice a d o q = record {
-      parts = λ ln w. let u : NW (read_some b a ++ read_some b d) =
-          subst NW (uses.used_slice b a d) w in
+      parts = λ ln w. let u : Noted (read_some b a ++ read_some b d) =
+          subst Noted (uses.used_slice b a d) w in
           subst TrailedClean (sym (rows.coded_slice n ln a d)) (
             some_clean ln a o (front (read_some b a) (read_some b d) u),
             some_clean ln d q (back (read_some b a) (read_some b d) u),
@@ -568,8 +557,8 @@ module _ (ok : ℕ → Type 0) (flags : ℕ → Bool) (z : Bool) where
     clean_call : (xs : List Expr) (ks : List Named) → Every ECl xs → Every (OfNamed ECl TCl) ks → TCl (t.Call xs ks)
     clean_call xs ks os qs = record {
       parts = λ ln w.
-          let u : NW (read_all b xs ++ read_named b ks ++ Keys b.number (key_names ks) ∷ []) =
-          subst NW (uses.used_call b xs ks) w in
+          let u : Noted (read_all b xs ++ read_named b ks ++ Keys b.number (key_names ks) ∷ []) =
+          subst Noted (uses.used_call b xs ks) w in
           let v = front (read_all b xs ++ read_named b ks) (Keys b.number (key_names ks) ∷ []) u in
           subst TrailedClean (sym (rows.coded_call n ln xs ks)) (
             values_clean ln xs os (front (read_all b xs) (read_named b ks) v),

@@ -13,10 +13,11 @@ use Rattle.py_compile.specs.Uses.{Use, Text, Global, Keys, with_keys, keys_from,
 use Rattle.py_compile.specs.Statements.{Body, stated_block}
 use Rattle.py_compile.proofs.Legal.{legal_all}
 use Rattle.py_compile.specs.Whole as whole
-use Rattle.py_compile.proofs.Blocks.{Does}
+use Rattle.py_compile.proofs.Surrounds.{Does}
 use Rattle.py_compile.proofs.Program.{IsWhole, body_right, module_right}
 use Rattle.py_compile.proofs.World.{known, lim, Wide, HasNone, Slotted, Standing, BodiesOk}
-use Rattle.py_compile.proofs.StmtTyped.{block_rel, stmts_rel}
+use Rattle.py_compile.proofs.StmtTyped.{block_rel}
+use Rattle.py_compile.proofs.BodyTyped.{stmts_rel}
 use Rattle.py_compile.proofs.Numbers as numbers
 
 -- the keyword lists of a body begin with the empty one
@@ -50,79 +51,89 @@ stand_all locals texts cells keys pre (y ∷ ys) =
     let m : length (pre ++ y ∷ []) ≡ length pre + 1 = omega (arith, length-append pre (y ∷ [])) in
     let rest = stand_all locals texts cells keys (pre ++ y ∷ []) ys in
     let rest' = subst (λ l. Standing locals texts cells keys (map (λ y. y.params) l) (length (pre ++ y ∷ [])) ys)
-    (append_assoc pre (y ∷ []) ys) rest in
-    (omega (arith, lp, length-append pre (y ∷ ys)), here, subst (λ i. Standing locals texts cells keys ps i ys) m rest')
+    (append_assoc pre (y ∷ []) ys) rest in (
+      (omega (arith, lp, length-append pre (y ∷ ys)), here),
+      subst (λ i. Standing locals texts cells keys ps i ys) m rest',
+    )
 
 module _ (locals : List (List (List ℕ))) (ss : List Stmt) where
-  abbrev pub L : ℕ → List (List ℕ)
-  L = whole.locals_of locals ss
+  abbrev pub all_locals : ℕ → List (List ℕ)
+  all_locals = whole.locals_of locals ss
 
   abbrev pub us : List Use
   us = whole.uses locals ss
 
-  abbrev pub T : List (List ℕ)
-  T = whole.texts locals ss
+  abbrev pub all_texts : List (List ℕ)
+  all_texts = whole.texts locals ss
 
-  abbrev pub C : List (List ℕ)
-  C = whole.cells locals ss
+  abbrev pub all_cells : List (List ℕ)
+  all_cells = whole.cells locals ss
 
-  abbrev pub Ks : ℕ → List (List (List ℕ))
-  Ks j = keys_from j ([] ∷ []) us
+  abbrev pub all_keys : ℕ → List (List (List ℕ))
+  all_keys j = keys_from j ([] ∷ []) us
 
-  abbrev pub P : List ℕ
-  P = map (λ y. y.params) (whole.bodies ss)
+  abbrev pub all_params : List ℕ
+  all_params = map (λ y. y.params) (whole.bodies ss)
 
-  pub none : HasNone L T C Ks P
+  pub none : HasNone all_locals all_texts all_cells all_keys all_params
   none j = keys_first j us ([] ∷ []) [] refl
 
-  pub wide : Wide L T C Ks P us
-  wide = numbers.wide L T C Ks P us (numbers.all_noted [] [] (λ j. [] ∷ []) us)
+  pub wide : Wide all_locals all_texts all_cells all_keys all_params us
+  wide = numbers.wide all_locals all_texts all_cells all_keys all_params us (numbers.all_noted [] [] (λ j. [] ∷ []) us)
 
-  standing : Standing L T C Ks P 1 ((stated_block ss).inner 1)
-  standing = stand_all L T C Ks (whole.module_body ss ∷ []) ((stated_block ss).inner 1)
+  standing : Standing all_locals all_texts all_cells all_keys all_params 1 ((stated_block ss).inner 1)
+  standing = stand_all all_locals all_texts all_cells all_keys (whole.module_body ss ∷ []) ((stated_block ss).inner 1)
 
   -- the code of each body does what a block does
   abbrev pub AllDo : ℕ → List Body → Type 0
-  AllDo f ys = BodiesOk L T C Ks P f ys
+  AllDo f ys = BodiesOk all_locals all_texts all_cells all_keys all_params f ys
 
   pub all_do : legal_all ss false false ≡ true → AllDo 0 (whole.bodies ss)
   unfolding module_uses
   all_do h =
-      let r = block_rel L T C Ks P none (stmts_rel L T C Ks P none ss) in
+      let r = block_rel all_locals all_texts all_cells all_keys all_params none
+      (stmts_rel all_locals all_texts all_cells all_keys all_params none ss) in
       ((λ sl p s. r.good 0 false sl p s 1 [] h wide standing), r.inner false false 0 false 1 h wide standing)
 
   -- the slots of a code
-  pub named_slotted : (z : Bool) (j : ℕ) (m : ℕ) → Slotted L T C Ks P j z (length (whole.slots_named z (L j)) + m)
+  pub named_slotted : (z : Bool) (j : ℕ) (m : ℕ) →
+      Slotted all_locals all_texts all_cells all_keys all_params j z (length (whole.slots_named z (all_locals j)) + m)
   named_slotted false j m e = omega arith
   named_slotted true j m e = absurd (cc)
 
   abbrev pub code_at : ℕ → Body → Code
   code_at j y = whole.code_by y (whole.names_of locals ss j y) (whole.whole j y (whole.names_of locals ss j y))
 
-  pub slots_long : (j : ℕ) (y : Body) → length (code_at j y).slots ≡ length (whole.slots_named y.is_class (L j)) +
+  pub slots_long : (j : ℕ) (y : Body) →
+      length (code_at j y).slots ≡ length (whole.slots_named y.is_class (all_locals j)) +
       (whole.whole j y (whole.names_of locals ss j y)).slots
   slots_long j y = let p = whole.whole j y (whole.names_of locals ss j y) in let e : List ℕ = [] in let n =
       length-replicate p.slots e in omega
-      (arith, n, length-append (whole.slots_named y.is_class (L j)) (replicate p.slots []))
+      (arith, n, length-append (whole.slots_named y.is_class (all_locals j)) (replicate p.slots []))
 
   -- a code that isn't too large is right
-  pub code_right : (j : ℕ) (y : Body) → ((sl p : ℕ) → Slotted L T C Ks P j y.is_class sl →
-      Does (lim L T C Ks P j sl p) [] (y.block (known L T C Ks P j y.is_class))) →
+  pub code_right : (j : ℕ) (y : Body) →
+      ((sl p : ℕ) → Slotted all_locals all_texts all_cells all_keys all_params j y.is_class sl →
+      Does (lim all_locals all_texts all_cells all_keys all_params j sl p) []
+      (y.block (known all_locals all_texts all_cells all_keys all_params j y.is_class))) →
       (whole.whole j y (whole.names_of locals ss j y)).size < 2 ^ 16 →
-      IsWhole (lim L T C Ks P j (length (code_at j y).slots) (first_place j)) (code_at j y).instrs
+      IsWhole (lim all_locals all_texts all_cells all_keys all_params j (length (code_at j y).slots) (first_place j))
+      (code_at j y).instrs
   code_right zero y d few =
-      let b = y.block (known L T C Ks P zero y.is_class) in
-      let h = length (whole.slots_named y.is_class (L zero)) in
+      let b = y.block (known all_locals all_texts all_cells all_keys all_params zero y.is_class) in
+      let h = length (whole.slots_named y.is_class (all_locals zero)) in
       let m = slots_long zero y in
-      module_right (lim L T C Ks P zero (length (code_at zero y).slots) 1) y.line h b
+      module_right (lim all_locals all_texts all_cells all_keys all_params zero
+      (length (code_at zero y).slots) 1) y.line h b
       (d (length (code_at zero y).slots) 1
-      (subst (Slotted L T C Ks P zero y.is_class) (sym m)
+      (subst (Slotted all_locals all_texts all_cells all_keys all_params zero y.is_class) (sym m)
       (named_slotted y.is_class zero (module_code y.line b).slots))) (omega arith) (omega (arith, m)) few
   code_right (suc j) y d few =
-      let b = y.block (known L T C Ks P (suc j) y.is_class) in
-      let h = length (whole.slots_named y.is_class (L (suc j))) in
+      let b = y.block (known all_locals all_texts all_cells all_keys all_params (suc j) y.is_class) in
+      let h = length (whole.slots_named y.is_class (all_locals (suc j))) in
       let m = slots_long (suc j) y in
-      body_right (lim L T C Ks P (suc j) (length (code_at (suc j) y).slots) 0) y.line h b
+      body_right (lim all_locals all_texts all_cells all_keys all_params (suc j)
+      (length (code_at (suc j) y).slots) 0) y.line h b
       (d (length (code_at (suc j) y).slots) 0
-      (subst (Slotted L T C Ks P (suc j) y.is_class) (sym m)
+      (subst (Slotted all_locals all_texts all_cells all_keys all_params (suc j) y.is_class) (sym m)
       (named_slotted y.is_class (suc j) (body_code y.line b).slots))) refl (omega (arith, m)) few

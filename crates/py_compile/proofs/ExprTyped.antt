@@ -1,5 +1,5 @@
 -- The code of each expression whose uses have numbers pushes a value; as a target it takes one.
-use Rattle.std.proofs.Common.{◌≡◌, ◌∙◌, ◌&&◌, ℕ, ℤ, suc, ◌<◌, List, [], ◌∷◌, ◌++◌, Option, Some, None, Bool, true, false, refl, sym, ap, subst, arith, length, map, get_or}
+use Rattle.std.proofs.Common.{◌≡◌, ◌∙◌, ◌&&◌, ℕ, ℤ, ◌<◌, List, [], ◌∷◌, ◌++◌, Option, Some, None, Bool, true, false, refl, sym, ap, subst, arith, length, map, get_or}
 use Rattle.std.specs.Prelude.{if◌then◌else◌, nat_lt}
 use Rattle.std.specs.Prelude.{All}
 use Rattle.std.proofs.lemmas.Bool.{and_parts, ltb-true}
@@ -15,16 +15,12 @@ use Rattle.py_tree.specs.declared.expr.Trailer.{Trailer}
 use Rattle.py_tree.specs.declared.expr.Link.{Link}
 use Rattle.py_tree.specs.declared.expr.Named.{Named}
 use Rattle.py_tree.specs.declared.expr.Pair.{Pair}
-use Rattle.py_tree.specs.declared.expr.Operator.{Operator}
-use Rattle.py_tree.specs.declared.expr.Operator.TheVariants as op
 use Rattle.py_tree.specs.declared.expr.Level.{Level}
 use Rattle.py_tree.specs.declared.expr.Level.TheVariants as level
 use Rattle.py_tree.specs.declared.expr.Sign.{Sign}
-use Rattle.py_tree.specs.declared.expr.Sign.TheVariants as sign
 use Rattle.py_tree.specs.declared.expr.Expr.TheVariants as e
 use Rattle.py_tree.specs.declared.expr.Trailer.TheVariants as t
-use Rattle.py_tree.specs.declared.form.Form.{Form}
-use Rattle.py_tree.specs.declared.form.Form.TheVariants.{Bare, Part, Cut as CutForm, Many, Plain}
+use Rattle.py_tree.specs.declared.form.Form.TheVariants.{Cut as CutForm, Plain}
 use Rattle.py_tree.specs.Form.{form, form_trailer, is_target, is_single, all_targets, many, last_form}
 use Rattle.py_tree.proofs.Forms as forms
 use Rattle.py_compile.specs.declared.home.Home.{Home}
@@ -37,52 +33,16 @@ use Rattle.py_compile.specs.Uses.{Use, Text, Keys, Inside, name_read, name_bound
 use Rattle.py_compile.proofs.Sane.{fits_level, sane, sane_trailer, all_sane, sane_some, sane_links, sane_named, sane_pairs, sane_trailers}
 use Rattle.py_compile.proofs.Ops.{keep_false, keep_true}
 use Rattle.py_compile.proofs.Values.{Each, Value, Store, Change, one_is, one_value_is, two_values_is, link_is, operators_is, IsKeep, Kept, kept_is, all_kept_is, Between, between_is, chained_is, conditional_is, trail_is, attribute_is, index_is, slice_is, built_is, call_is, method_call_is, to_attr_is, to_item_is, to_all_is, one_takes, Pair as IsPair, pair_is, dictionary_is}
-use Rattle.py_compile.proofs.Blocks.{Does, block_does, one_does, del_attr_does, del_item_does, add_name_does, add_attr_does, add_item_does}
+use Rattle.py_compile.proofs.Surrounds.{Does, block_does, one_does, del_attr_does, del_item_does, add_name_does, add_attr_does, add_item_does}
 use Rattle.py_compile.proofs.Coded as rows
 use Rattle.py_compile.specs.inner.Tallies.{read_links, read_pairs, read_named, read_trailers}
 use Rattle.py_compile.proofs.Used as uses
 use Rattle.py_compile.proofs.SaneRows as sanes
 use Rattle.py_compile.proofs.ExprInduct.{Every, IfThere, Arms, OfLink, OfNamed, OfPair, expr_induct, every_front, every_back}
 use Rattle.py_compile.proofs.Homes.{IsHomed, KeysFit, Covered, Fits, home_bound, read_bound}
-
--- operators have numbers below 12
-pub operator_small : (o : Operator) → operator o < 12
-operator_small op.Or = omega arith
-operator_small op.And = omega arith
-operator_small op.Less = omega arith
-operator_small op.Greater = omega arith
-operator_small op.Equal = omega arith
-operator_small op.GreaterEqual = omega arith
-operator_small op.LessEqual = omega arith
-operator_small op.NotEqual = omega arith
-operator_small op.In = omega arith
-operator_small op.NotIn = omega arith
-operator_small op.Is = omega arith
-operator_small op.IsNot = omega arith
-operator_small op.BitOr = omega arith
-operator_small op.BitXor = omega arith
-operator_small op.BitAnd = omega arith
-operator_small op.ShiftLeft = omega arith
-operator_small op.ShiftRight = omega arith
-operator_small op.Plus = omega arith
-operator_small op.Minus = omega arith
-operator_small op.Times = omega arith
-operator_small op.Divide = omega arith
-operator_small op.Floor = omega arith
-operator_small op.Remainder = omega arith
-operator_small op.Power = omega arith
-
-sign_small : (g : Sign) → sign_number g < 3
-sign_small sign.Plus = omega arith
-sign_small sign.Minus = omega arith
-sign_small sign.Invert = omega arith
-
-pub single_target : (f : Form) → is_single false f ≡ true → is_target false f ≡ true
-single_target Bare h = refl
-single_target Part h = refl
-single_target CutForm h = absurd (cc)
-single_target (Many s w) h = absurd (cc)
-single_target Plain h = absurd (cc)
+use Rattle.py_compile.proofs.Lengths.{values_length, pairs_length, named_length}
+use Rattle.py_compile.proofs.SmallNumbers.{operator_small, sign_small}
+use Rattle.py_compile.proofs.SingleTargets.{single_target}
 
 module _ (k : Limits) (n : Known) (b : Inside) (fits : Fits k n b) where
   abbrev pub Cover : List Use → Type 0
@@ -220,10 +180,6 @@ module _ (k : Limits) (n : Known) (b : Inside) (fits : Fits k n b) where
         block_does k [] (all_deleted n ln xs) (deletes_ok ln xs os h s c);
   }
 
-  pub values_length : (ln : ℕ) (xs : List Expr) → length (values n ln xs) ≡ length xs
-  values_length ln [] = refl
-  values_length ln (x ∷ xs) = ap suc (values_length ln xs)
-
   -- operators with their operands
   abbrev pub LinkOk : ℕ → ℕ × Piece → Type 0
   LinkOk most l = (l.0 < most) × Value k l.1
@@ -332,10 +288,6 @@ module _ (k : Limits) (n : Known) (b : Inside) (fits : Fits k n b) where
         pairs_ok ln ps os.1 q.1 (back (read b p.key ++ read b p.value) (read_pairs b ps) c),
       )
 
-  pairs_length : (ln : ℕ) (ps : List Pair) → length (pairs n ln ps) ≡ length ps
-  pairs_length ln [] = refl
-  pairs_length ln (p ∷ ps) = ap suc (pairs_length ln ps)
-
   -- trailers
   trailers_ok : (ln : ℕ) (ts : List Trailer) → Every TrailerOk ts → sane_trailers ts ≡ true →
       Cover (read_trailers b ts) → Every TrailedOk (trailers n ln ts)
@@ -364,10 +316,6 @@ module _ (k : Limits) (n : Known) (b : Inside) (fits : Fits k n b) where
         os.0.value ln p.0 (back (Text x.name ∷ []) (read b x.value) d),
         named_ok ln xs os.1 p.1 (back (Text x.name ∷ read b x.value) (read_named b xs) c),
       )
-
-  named_length : (ln : ℕ) (ks : List Named) → length (key_values n ln ks) ≡ length (key_names ks)
-  named_length ln [] = refl
-  named_length ln (x ∷ xs) = ap suc (named_length ln xs)
 
   keys_texts : (ks : List Named) → Cover (read_named b ks) → All (IsText k) (map (text n) (key_names ks))
   keys_texts [] c = All-nil (IsText k)
@@ -439,7 +387,7 @@ module _ (k : Limits) (n : Known) (b : Inside) (fits : Fits k n b) where
   tuple_ok xs os = record {
     value = λ ln s c.
         let u : Cover (read_all b xs) = subst (λ z. Cover z.read) (uses.used_tuple b xs) c in
-        let v = built_is k ln (BuildTuple (length xs)) (values n ln xs) (refl, sym (values_length ln xs), refl, tt)
+        let v = built_is k ln (BuildTuple (length xs)) (values n ln xs) (refl, sym (values_length n ln xs), refl, tt)
         (values_ok ln xs os (sym (sanes.sane_tuple xs) ∙ s) u) in
         subst (λ z. Value k z.value) (sym (rows.coded_tuple n ln xs)) v;
     place = λ ln h s c.
@@ -462,7 +410,7 @@ module _ (k : Limits) (n : Known) (b : Inside) (fits : Fits k n b) where
   list_ok xs os = record {
     value = λ ln s c.
         let u : Cover (read_all b xs) = subst (λ z. Cover z.read) (uses.used_list b xs) c in
-        let v = built_is k ln (BuildList (length xs)) (values n ln xs) (refl, sym (values_length ln xs), refl, tt)
+        let v = built_is k ln (BuildList (length xs)) (values n ln xs) (refl, sym (values_length n ln xs), refl, tt)
         (values_ok ln xs os (sym (sanes.sane_list xs) ∙ s) u) in
         subst (λ z. Value k z.value) (sym (rows.coded_list n ln xs)) v;
     place = λ ln h s c.
@@ -479,7 +427,7 @@ module _ (k : Limits) (n : Known) (b : Inside) (fits : Fits k n b) where
       let v : Value k (built ln (BuildDict (length (pairs n ln ps))) (pairs n ln ps)) =
       dictionary_is k ln (pairs n ln ps) (pairs_ok ln ps os (sym (sanes.sane_dict ps) ∙ s) u) in
       let w : Value k (built ln (BuildDict (length ps)) (pairs n ln ps)) =
-      subst (λ z. Value k (built ln (BuildDict z) (pairs n ln ps))) (pairs_length ln ps) v in
+      subst (λ z. Value k (built ln (BuildDict z) (pairs n ln ps))) (pairs_length n ln ps) v in
       subst (λ z. Value k z.value) (sym (rows.coded_dict n ln ps)) w)
 
   trail_ok : (a : Expr) (ts : List Trailer) → Ok a → Every TrailerOk ts → Ok (e.Trail a ts)
@@ -607,7 +555,7 @@ module _ (k : Limits) (n : Known) (b : Inside) (fits : Fits k n b) where
           named_ok ln ks qs p.1 (back (read_all b xs) (read_named b ks) w),
           keys_ok ks (back (read_all b xs) (read_named b ks) w)
               (back (read_all b xs ++ read_named b ks) (Keys b.number (key_names ks) ∷ []) u),
-          named_length ln ks,
+          named_length n ln ks,
         );
     last = λ ln o h s c v. let z : is_target false Plain ≡ true = ap (is_target false) (sym (forms.form_call xs ks)) ∙
         h in absurd (cc);

@@ -5,7 +5,7 @@ use Rattle.std.specs.List.{list_any, position_or_len}
 use Rattle.std.specs.Str.{bytes_eq}
 use Rattle.std.proofs.lemmas.Bool.{ltb-true}
 use Rattle.std.proofs.lemmas.Bool.Decides.{nat_tests}
-use Rattle.py_code.specs.Effects.{Limits, effect, On, IsCell, IsKnown, IsText}
+use Rattle.py_code.specs.Effects.{Limits, effect, plain, On, IsCell, IsKnown, IsText}
 use Rattle.py_compile.specs.declared.home.Home.{Home}
 use Rattle.py_compile.specs.declared.home.Home.TheVariants.{Slot, Cell, Body}
 use Rattle.py_compile.specs.Table.{load, store, del}
@@ -60,55 +60,32 @@ module _ (k : Limits) where
     pub del_pushes : (effect k (del x)).pushes ≡ 0
     pub del_known : IsKnown k (del x)
 
-  slot_homed : (s : ℕ) → s < k.slots → IsHomed (Slot s)
-  slot_homed s lt = record {
-    load_flow = refl;
-    load_pops = refl;
-    load_pushes = refl;
-    load_known = lt;
-    store_flow =
-        refl;
-    store_pops = refl;
-    store_pushes = refl;
-    store_known = lt;
-    del_flow = refl;
-    del_pops = refl;
-    del_pushes =
-        refl;
-    del_known = lt;
+  -- so it is where its instructions have these effects
+  homed_by : (x : Home) → effect k (load x) ≡ plain 0 1 → IsKnown k (load x) → effect k (store x) ≡ plain 1 0 →
+      IsKnown k (store x) → effect k (del x) ≡ plain 0 0 → IsKnown k (del x) → IsHomed x
+  homed_by x l kl s ks d kd = record {
+    load_flow = ap (λ e. e.flow) l;
+    load_pops = ap (λ e. e.pops) l;
+    load_pushes = ap (λ e. e.pushes) l;
+    load_known = kl;
+    store_flow = ap (λ e. e.flow) s;
+    store_pops = ap (λ e. e.pops) s;
+    store_pushes = ap (λ e. e.pushes) s;
+    store_known = ks;
+    del_flow = ap (λ e. e.flow) d;
+    del_pops = ap (λ e. e.pops) d;
+    del_pushes = ap (λ e. e.pushes) d;
+    del_known = kd;
   }
+
+  slot_homed : (s : ℕ) → s < k.slots → IsHomed (Slot s)
+  slot_homed s lt = homed_by (Slot s) refl lt refl lt refl lt
 
   cell_homed : (g : ℕ) → IsCell k g → IsHomed (Cell g)
-  cell_homed g h = record {
-    load_flow = refl;
-    load_pops = refl;
-    load_pushes = refl;
-    load_known = h;
-    store_flow = refl;
-    store_pops = refl;
-    store_pushes = refl;
-    store_known = h;
-    del_flow = refl;
-    del_pops = refl;
-    del_pushes = refl;
-    del_known = h;
-  }
+  cell_homed g h = homed_by (Cell g) refl h refl h refl h
 
   body_homed : (x : ℕ) → IsText k x → IsHomed (Body x)
-  body_homed x h = record {
-    load_flow = refl;
-    load_pops = refl;
-    load_pushes = refl;
-    load_known = h;
-    store_flow = refl;
-    store_pops = refl;
-    store_pushes = refl;
-    store_known = h;
-    del_flow = refl;
-    del_pops = refl;
-    del_pushes = refl;
-    del_known = h;
-  }
+  body_homed x h = homed_by (Body x) refl h refl h refl h
 
   module _ (n : Known) (b : Inside) where
     -- a keyword list of the code has these names

@@ -14,7 +14,7 @@ use Rattle.py_compile.specs.Template.{Piece, Op, Sub, template}
 use Rattle.py_compile.specs.Table.{body_code, module_code}
 use Rattle.py_compile.proofs.Typed.{HasCode, HasShapes, code_front, code_back, shapes_front, shapes_back, EnvFits, AllRight, Typed, op_right, none_right, template_typed}
 use Rattle.py_compile.proofs.Ops.{sh, op}
-use Rattle.py_compile.proofs.Blocks.{Does}
+use Rattle.py_compile.proofs.Surrounds.{Does}
 
 code_all : (is pre : List Instr) → HasCode (pre ++ is) (length pre) is
 code_all [] pre = tt

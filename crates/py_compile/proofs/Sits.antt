@@ -16,6 +16,7 @@ use Rattle.py_compile.specs.Expressions.{value, stored}
 use Rattle.py_compile.specs.Names.{Known, home}
 use Rattle.py_compile.specs.Statements.{Body, Stated, Armed, Claused, Handled, still, block, count, pieces, inners, armed, armed_count, armed_inner, handled, handled_count, handled_inner, clause, tried, finally, inner_body, base, stated, all_stated}
 use Rattle.py_compile.specs.Uses.{Uses, stmt_uses}
+use Rattle.py_compile.proofs.EachFrom.{EachFrom, from_front, from_back, from_join}
 use Rattle.py_compile.proofs.Legal.{Legal, legal, legal_by_arm, legal_by_handler}
 use Rattle.py_compile.proofs.FoldInduct.{related_every, related_of, code_by_arm, code_by_clause, code_by_handler, uses_by_arm, uses_by_handler, ClauseWith, LayerWith, IsLayer, every_stmts}
 use Rattle.py_compile.proofs.ExprInduct.{Every}
@@ -33,7 +34,7 @@ opens_back a c g h = list_any-append (opens_body g) a c ∙
     or_right (list_any (opens_body g) a) (list_any (opens_body g) c) h
 
 -- the bodies of a body: what it knows, by its number and whether it is a class's
-module _ (N : ℕ → Bool → Known) (all : List Instr) where
+module _ (knows : ℕ → Bool → Known) (all : List Instr) where
   -- the instructions of this piece are among all
   pub record Sits (b : Piece) : Type 0 where
     pub env : List Frame
@@ -81,33 +82,32 @@ module _ (N : ℕ → Bool → Known) (all : List Instr) where
   row_sits ps s = rows_sit ps (sub_parts 0 0 0 (map (Sub 1) ps) s)
 
   -- the code of each of these bodies is among all
+  abbrev SitsIn : ℕ → Body → Type 0
+  SitsIn f y = Sits (y.block (knows f y.is_class))
+
   abbrev pub BodiesSit : ℕ → List Body → Type 0
-  BodiesSit f [] = Unit {0}
-  BodiesSit f (y ∷ ys) = Sits (y.block (N f y.is_class)) × BodiesSit (f + 1) ys
+  BodiesSit = EachFrom SitsIn
 
   sits_front : (f : ℕ) (a c : List Body) → BodiesSit f (a ++ c) → BodiesSit f a
-  sits_front f [] c h = tt
-  sits_front f (y ∷ a) c h = (h.0, sits_front (f + 1) a c h.1)
+  sits_front = from_front SitsIn
 
   sits_back : (f m : ℕ) (a c : List Body) → length a ≡ m → BodiesSit f (a ++ c) → BodiesSit (f + m) c
-  sits_back f m [] c e h = let k : f ≡ f + m = omega (arith, e) in subst (λ g. BodiesSit g c) k h
-  sits_back f m (y ∷ a) c e h = let k : f + 1 + length a ≡ f + m = omega (arith, e) in
-      subst (λ g. BodiesSit g c) k (sits_back (f + 1) (length a) a c refl h.1)
+  sits_back = from_back SitsIn
 
   -- each of these that is a class's has its CLASS_BODY
+  abbrev OpensIn : ℕ → Body → Type 0
+  OpensIn f y = y.is_class ≡ true → Opens all f
+
   abbrev pub AllOpen : ℕ → List Body → Type 0
-  AllOpen f [] = Unit {0}
-  AllOpen f (y ∷ ys) = (y.is_class ≡ true → Opens all f) × AllOpen (f + 1) ys
+  AllOpen = EachFrom OpensIn
 
   opens_join : (f m : ℕ) (a c : List Body) → length a ≡ m → AllOpen f a → AllOpen (f + m) c → AllOpen f (a ++ c)
-  opens_join f m [] c e h g = let k : f + m ≡ f = omega (arith, e) in subst (λ i. AllOpen i c) k g
-  opens_join f m (y ∷ a) c e h g = let k : f + m ≡ f + 1 + length a = omega (arith, e) in
-      (h.0, opens_join (f + 1) (length a) a c refl h.1 (subst (λ i. AllOpen i c) k g))
+  opens_join = from_join OpensIn
 
   -- a statement
   pub record SitRel (s : Stated) : Type 0 where
     pub long : (f : ℕ) → length (s.inner f) ≡ s.bodies
-    pub sits : (j : ℕ) (z : Bool) (c : List Around) (f : ℕ) → Sits (s.code (N j z) c f) → BodiesSit f (s.inner f) →
+    pub sits : (j : ℕ) (z : Bool) (c : List Around) (f : ℕ) → Sits (s.code (knows j z) c f) → BodiesSit f (s.inner f) →
         AllOpen f (s.inner f)
 
   pub record ArmSit (a : Armed) : Type 0 where
@@ -125,7 +125,7 @@ module _ (N : ℕ → Bool → Known) (all : List Instr) where
       omega (arith, a, b, length-append (s.inner f) (inners ss (f + s.bodies)))
 
   list_sits : (ss : List Stated) → Every SitRel ss → (j : ℕ) (z : Bool) (c : List Around) (f : ℕ) →
-      Every Sits (pieces ss (N j z) c f) → BodiesSit f (inners ss f) → AllOpen f (inners ss f)
+      Every Sits (pieces ss (knows j z) c f) → BodiesSit f (inners ss f) → AllOpen f (inners ss f)
   list_sits [] rs j z c f p b = tt
   list_sits (s ∷ ss) rs j z c f p b =
       let t = inners ss (f + s.bodies) in
@@ -136,7 +136,7 @@ module _ (N : ℕ → Bool → Known) (all : List Instr) where
   block_sit ss rs = record {
     long = list_long ss rs;
     sits = λ j z c f s b.
-        list_sits ss rs j z c f (row_sits (pieces ss (N j z) c f) s) b;
+        list_sits ss rs j z c f (row_sits (pieces ss (knows j z) c f) s) b;
   }
 
   -- two parts in turn
@@ -198,11 +198,12 @@ module _ (N : ℕ → Bool → Known) (all : List Instr) where
       omega (arith, a, b, length-append (x.block.inner f) (armed_inner as' (f + x.block.bodies)))
 
   arms_sit : (as' : List Armed) → Every ArmSit as' → (j : ℕ) (z : Bool) (c : List Around) (f : ℕ) →
-      Every Sits (armed as' (N j z) c f) → BodiesSit f (armed_inner as' f) → AllOpen f (armed_inner as' f)
+      Every Sits (armed as' (knows j z) c f) → BodiesSit f (armed_inner as' f) → AllOpen f (armed_inner as' f)
   arms_sit [] rs j z c f p b = tt
   arms_sit (x ∷ as') rs j z c f p b =
       two f x.block.bodies (x.block.inner f) (armed_inner as' (f + x.block.bodies)) (rs.0.block.long f)
-      (λ d. rs.0.block.sits j z c f (arm_sits x.line (value (N j z) x.line x.test) (x.block.code (N j z) c f) p.0) d)
+      (λ d. rs.0.block.sits j z c f (arm_sits x.line (value (knows j z) x.line x.test)
+      (x.block.code (knows j z) c f) p.0) d)
       (λ d. arms_sit as' rs.1 j z c (f + x.block.bodies) p.1 d) b
 
   if_sit : (as' : List Armed) (e : Stated) → Every ArmSit as' → SitRel e →
@@ -216,7 +217,8 @@ module _ (N : ℕ → Bool → Known) (all : List Instr) where
   if_sit as' e rs re = record {
     long = λ f. let a = arms_long as' rs f in let b = re.long (f + armed_count as') in
         omega (arith, a, b, length-append (armed_inner as' f) (e.inner (f + armed_count as')));
-    sits = λ j z c f s b. let q = all_arms_sit (armed as' (N j z) c f) (e.code (N j z) c (f + armed_count as')) s in
+    sits = λ j z c f s b. let q = all_arms_sit (armed as' (knows j z) c f)
+        (e.code (knows j z) c (f + armed_count as')) s in
         two f (armed_count as') (armed_inner as' f) (e.inner (f + armed_count as')) (arms_long as' rs f)
         (λ d. arms_sit as' rs j z c f q.0 d) (λ d. re.sits j z c (f + armed_count as') q.1 d) b;
   }
@@ -232,8 +234,8 @@ module _ (N : ℕ → Bool → Known) (all : List Instr) where
   while_sit a e ra re = record {
     long = λ f. let x = ra.block.long f in let y = re.long (f + a.block.bodies) in
         omega (arith, x, y, length-append (a.block.inner f) (e.inner (f + a.block.bodies)));
-    sits = λ j z c f s b. let q = while_sits a.line (value (N j z) a.line a.test)
-        (a.block.code (N j z) (InWhile ∷ c) f) (e.code (N j z) c (f + a.block.bodies)) s in
+    sits = λ j z c f s b. let q = while_sits a.line (value (knows j z) a.line a.test)
+        (a.block.code (knows j z) (InWhile ∷ c) f) (e.code (knows j z) c (f + a.block.bodies)) s in
         two f a.block.bodies (a.block.inner f) (e.inner (f + a.block.bodies)) (ra.block.long f)
         (λ d. ra.block.sits j z (InWhile ∷ c) f q.0 d) (λ d. re.sits j z c (f + a.block.bodies) q.1 d) b;
   }
@@ -249,8 +251,8 @@ module _ (N : ℕ → Bool → Known) (all : List Instr) where
   for_sit ln t x ss e rs re = record {
     long = λ f. let a = list_long ss rs f in let b = re.long (f + count ss) in
         omega (arith, a, b, length-append (inners ss f) (e.inner (f + count ss)));
-    sits = λ j z c f s b. let q = for_sits ln (stored (N j z) ln t) (value (N j z) ln x)
-        ((block ss).code (N j z) (InFor ∷ c) f) (e.code (N j z) c (f + count ss)) s in
+    sits = λ j z c f s b. let q = for_sits ln (stored (knows j z) ln t) (value (knows j z) ln x)
+        ((block ss).code (knows j z) (InFor ∷ c) f) (e.code (knows j z) c (f + count ss)) s in
         two f (count ss) (inners ss f) (e.inner (f + count ss)) (list_long ss rs f)
         (λ d. (block_sit ss rs).sits j z (InFor ∷ c) f q.0 d) (λ d. re.sits j z c (f + count ss) q.1 d) b;
   }
@@ -266,12 +268,12 @@ module _ (N : ℕ → Bool → Known) (all : List Instr) where
       omega (arith, a, b, length-append (x.block.inner f) (handled_inner hs (f + x.block.bodies)))
 
   handlers_sit : (hs : List Handled) → Every HandlerSit hs → (j : ℕ) (z : Bool) (c : List Around) (f : ℕ) →
-      Every Sits (handled hs (N j z) c f) → BodiesSit f (handled_inner hs f) → AllOpen f (handled_inner hs f)
+      Every Sits (handled hs (knows j z) c f) → BodiesSit f (handled_inner hs f) → AllOpen f (handled_inner hs f)
   handlers_sit [] rs j z c f p b = tt
   handlers_sit (x ∷ hs) rs j z c f p b =
       two f x.block.bodies (x.block.inner f) (handled_inner hs (f + x.block.bodies)) (rs.0.block.long f)
       (λ d. rs.0.block.sits j z (InClause ∷ c) f
-      (clause_body (N j z) x.line x.test x.target (x.block.code (N j z) (InClause ∷ c) f) p.0) d)
+      (clause_body (knows j z) x.line x.test x.target (x.block.code (knows j z) (InClause ∷ c) f) p.0) d)
       (λ d. handlers_sit hs rs.1 j z c (f + x.block.bodies) p.1 d) b
 
   try_sit : (t : Claused) (hs : List Handled) (e : Stated) → SitRel t.block → Every HandlerSit hs → SitRel e →
@@ -290,8 +292,9 @@ module _ (N : ℕ → Bool → Known) (all : List Instr) where
           length-append (t.block.inner f) (handled_inner (h ∷ hs) (f + t.block.bodies)),
         );
     sits = λ j z c f s b.
-        let q = try_sits t.line (t.block.code (N j z) (InTry ∷ c) f) (handled (h ∷ hs) (N j z) c (f + t.block.bodies))
-        (e.code (N j z) c (f + t.block.bodies + handled_count (h ∷ hs))) s in
+        let q = try_sits t.line (t.block.code (knows j z) (InTry ∷ c) f)
+        (handled (h ∷ hs) (knows j z) c (f + t.block.bodies))
+        (e.code (knows j z) c (f + t.block.bodies + handled_count (h ∷ hs))) s in
         let a = t.block.inner f in
         let m = handled_inner (h ∷ hs) (f + t.block.bodies) in
         let d = e.inner (f + t.block.bodies + handled_count (h ∷ hs)) in
@@ -314,15 +317,16 @@ module _ (N : ℕ → Bool → Known) (all : List Instr) where
     long = λ f. let x = rt.long f in let y = (rd d refl).long (f + t.bodies) in
         omega (arith, x, y, length-append (t.inner f) (d.block.inner (f + t.bodies)));
     sits = λ j z c f s b. let q = finally_sits ln
-        (t.code (N j z) (InFinally (d.block.code (N j z) c (f + t.bodies)) ∷ c) f)
-        (d.block.code (N j z) c (f + t.bodies)) s in
+        (t.code (knows j z) (InFinally (d.block.code (knows j z) c (f + t.bodies)) ∷ c) f)
+        (d.block.code (knows j z) c (f + t.bodies)) s in
         two f t.bodies (t.inner f) (d.block.inner (f + t.bodies)) (rt.long f)
-        (λ w. rt.sits j z (InFinally (d.block.code (N j z) c (f + t.bodies)) ∷ c) f q.0 w)
+        (λ w. rt.sits j z (InFinally (d.block.code (knows j z) c (f + t.bodies)) ∷ c) f q.0 w)
         (λ w. (rd d refl).sits j z c (f + t.bodies) q.1 w) b;
   }
 
   body_sit : (ln : ℕ) (x : List ℕ) (z : Bool) (m : ℕ) (ss : List Stated) (g : Known → List Around → ℕ → Piece) →
-      Every SitRel ss → (z ≡ true → (j : ℕ) (w : Bool) (c : List Around) (f : ℕ) → Sits (g (N j w) c f) → Opens all f)
+      Every SitRel ss → (z ≡ true → (j : ℕ) (w : Bool) (c : List Around) (f : ℕ) → Sits (g (knows j w) c f) →
+      Opens all f)
       → SitRel (record { bodies = 1 + count ss; code = g; inner = inner_body ln x z m ss })
   body_sit ln x z m ss g rs o = record {
     long = λ f. let a = list_long ss rs (f + 1) in omega (arith, a);
@@ -401,7 +405,7 @@ module _ (N : ℕ → Bool → Known) (all : List Instr) where
       (related_every SitRel (related_of Rel stated (stmt_uses no_locals) legal ys)) (λ e. absurd (cc))
   layer (open'.Class ln x e ys) = body_sit ln x true 0 _ _
       (related_every SitRel (related_of Rel stated (stmt_uses no_locals) legal ys))
-      (λ q j w c f s. class_opens ln (base (N j w) ln e) f (home (N j w) x) s)
+      (λ q j w c f s. class_opens ln (base (knows j w) ln e) f (home (knows j w) x) s)
 
   pub stmts_sit : (ss : List Stmt) → Every SitRel (all_stated ss)
   stmts_sit ss = related_every SitRel (every_stmts no_locals Rel ArmRel HandlerRel layer
@@ -410,6 +414,6 @@ module _ (N : ℕ → Bool → Known) (all : List Instr) where
       (λ ln e t ss vs gs rs. record { block = block_sit ss (related_every SitRel rs) }) ss)
 
   -- the bodies inside a module's statements
-  pub module_opens : (ss : List Stmt) → Sits ((block (all_stated ss)).code (N 0 false) [] 1) →
+  pub module_opens : (ss : List Stmt) → Sits ((block (all_stated ss)).code (knows 0 false) [] 1) →
       BodiesSit 1 (inners (all_stated ss) 1) → AllOpen 1 (inners (all_stated ss) 1)
   module_opens ss s b = (block_sit (all_stated ss) (stmts_sit ss)).sits 0 false [] 1 s b

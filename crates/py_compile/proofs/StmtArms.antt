@@ -1,5 +1,5 @@
 -- What is put part by part is the template: one lemma for each template of statements.
-use Rattle.std.proofs.Common.{◌≡◌, ℕ, ◌+◌, map, List, [], ◌∷◌, ◌++◌, Option, Some, None, refl, length, sym, subst}
+use Rattle.std.proofs.Common.{◌≡◌, ℕ, ◌+◌, map, List, [], ◌∷◌, ◌++◌, Option, Some, None, refl, length, drop, sym, subst}
 use Rattle.py_code.specs.declared.instr.Constant.{Constant}
 use Rattle.py_code.specs.declared.instr.Constant.TheVariants.{Root}
 use Rattle.py_code.specs.declared.instr.Instr.TheVariants.{Pop, Dup, Not, Const, Call, LoadLocal, StoreLocal, Jump, JumpFalse, Iter, Next, Try, PopTry, ExcMatch, MakeRaised, Raise, Return, PrintItem, PrintNewline, MakeFunction, ClassBody}
@@ -7,7 +7,7 @@ use Rattle.py_compile.specs.declared.around.Way.TheVariants.{Out}
 use Rattle.py_compile.specs.declared.home.Home.{Home}
 use Rattle.py_compile.specs.declared.draft.Draft.TheVariants.{Op as DraftOp, To as DraftTo}
 use Rattle.py_compile.specs.declared.draft.Far.TheVariants.{Always, Trying}
-use Rattle.py_compile.specs.Template.{Frame, Piece, Part, Op, Hidden, To, Here, Alone, Sub, row}
+use Rattle.py_compile.specs.Template.{Frame, Piece, Part, Op, Hidden, To, Here, Alone, Sub, template, row}
 use Rattle.py_compile.specs.Table.{also, assign, expression, print_one, print_line, raise_one, raise_two, assert_alone, assert_with, import_one, store, def, class, arm, all_arms, while, for, try_except, try_finally, return, way_out, Around}
 use Rattle.py_compile.specs.Names.{Known}
 use Rattle.py_compile.specs.Expressions.{value, stored}
@@ -173,59 +173,20 @@ module _ (line : ℕ) (env : List ℕ → List Frame) where
         ),
       ))
 
-  pub try_arm : (body : Piece) (clauses : List Piece) (other : Piece) (base slot : ℕ) (e m1 m2 m3 m4 m5 m6 m7 m8 : St)
-      → base ≡ length e.labels → slot ≡ e.slots → m1 ≡ put (opened e 2 1) line (DraftTo Trying (base + 1)) →
+  -- a body whose errors go to a handler: q stands behind the store of the error
+  guarded_arm : (body other : Piece) (d : ℕ) (q : Piece) (base slot : ℕ) (e m1 m2 m3 m4 m5 m6 m7 m8 : St) →
+      base ≡ length e.labels → slot ≡ e.slots → m1 ≡ put (opened e 2 1) line (DraftTo Trying (base + 1)) →
       Emitted m1 m2 body (λ ls. frame_there base 2 slot ls ∷ env ls) → m3 ≡ put m2 line (DraftOp PopTry) →
-      Emitted m3 m4 other env → m5 ≡ put (marked (put m4 line (DraftTo Always base)) (base + 1)) line
-      (DraftOp (StoreLocal slot)) → Emitted m5 m6 (row clauses) (λ ls. frame_there base 2 slot ls ∷ env ls) →
+      Emitted m3 m4 other env →
+      m5 ≡ put (marked (put m4 line (DraftTo Always base)) (base + 1)) line (DraftOp (StoreLocal slot)) →
+      Emitted m5 m6 q (λ ls. drop d (frame_there base 2 slot ls ∷ env ls)) →
       m7 ≡ put (put m6 line (DraftOp (LoadLocal slot))) line (DraftOp Raise) → m8 ≡ marked m7 base →
-      Emitted e m8 (try_except line body clauses other) env
-  try_arm body clauses other base slot e m1 m2 m3 m4 m5 m6 m7 m8 eb es h1 h2 h3 h4 h5 h6 h7 h8 =
+      Emitted e m8 (template line 1 2
+      (To 0 Try 1 ∷ Sub 0 body ∷ Op PopTry ∷ Sub 1 other ∷ To 0 Jump 0 ∷ Here 1 ∷ Hidden 0 StoreLocal ∷ Sub d q ∷
+      Hidden 0 LoadLocal ∷ Op Raise ∷ Here 0 ∷ [])) env
+  guarded_arm body other d q base slot e m1 m2 m3 m4 m5 m6 m7 m8 eb es h1 h2 h3 h4 h5 h6 h7 h8 =
       template_emitted line 1 2 base slot env
-      (To 0 Try 1 ∷ Sub 0 body ∷ Op PopTry ∷ Sub 1 other ∷ To 0 Jump 0 ∷ Here 1 ∷ Hidden 0 StoreLocal ∷ Sub 0
-      (row clauses) ∷ Hidden 0 LoadLocal ∷ Op Raise ∷ Here 0 ∷ []) e (opened e 2 1) m8 eb es refl refl refl refl (
-        m1,
-        (Trying, base + 1, λ q. refl, λ ls. refl, h1),
-        (
-          m2,
-          h2,
-          (
-            m3,
-            h3,
-            (
-              m4,
-              h4,
-              (
-                put m4 line (DraftTo Always base),
-                (Always, base, λ q. refl, λ ls. refl, refl),
-                (
-                  marked (put m4 line (DraftTo Always base)) (base + 1),
-                  refl,
-                  (
-                    m5,
-                    (slot, λ ls. refl, h5),
-                    (
-                      m6,
-                      h6,
-                      (put m6 line (DraftOp (LoadLocal slot)), (slot, λ ls. refl, refl), (m7, h7, (m8, h8, refl))),
-                    ),
-                  ),
-                ),
-              ),
-            ),
-          ),
-        ),
-      )
-
-  pub finally_arm : (inner fin : Piece) (base slot : ℕ) (e m1 m2 m3 m4 m5 m6 m7 m8 : St) → base ≡ length e.labels →
-      slot ≡ e.slots → m1 ≡ put (opened e 2 1) line (DraftTo Trying (base + 1)) →
-      Emitted m1 m2 inner (λ ls. frame_there base 2 slot ls ∷ env ls) → m3 ≡ put m2 line (DraftOp PopTry) →
-      Emitted m3 m4 fin env → m5 ≡ put (marked (put m4 line (DraftTo Always base)) (base + 1)) line
-      (DraftOp (StoreLocal slot)) → Emitted m5 m6 fin env → m7 ≡ put (put m6 line (DraftOp (LoadLocal slot))) line
-      (DraftOp Raise) → m8 ≡ marked m7 base → Emitted e m8 (try_finally line inner fin) env
-  finally_arm inner fin base slot e m1 m2 m3 m4 m5 m6 m7 m8 eb es h1 h2 h3 h4 h5 h6 h7 h8 =
-      template_emitted line 1 2 base slot env
-      (To 0 Try 1 ∷ Sub 0 inner ∷ Op PopTry ∷ Sub 1 fin ∷ To 0 Jump 0 ∷ Here 1 ∷ Hidden 0 StoreLocal ∷ Sub 1 fin ∷
+      (To 0 Try 1 ∷ Sub 0 body ∷ Op PopTry ∷ Sub 1 other ∷ To 0 Jump 0 ∷ Here 1 ∷ Hidden 0 StoreLocal ∷ Sub d q ∷
       Hidden 0 LoadLocal ∷ Op Raise ∷ Here 0 ∷ []) e (opened e 2 1) m8 eb es refl refl refl refl (
         m1,
         (Trying, base + 1, λ q. refl, λ ls. refl, h1),
@@ -259,6 +220,25 @@ module _ (line : ℕ) (env : List ℕ → List Frame) where
           ),
         ),
       )
+
+  pub try_arm : (body : Piece) (clauses : List Piece) (other : Piece) (base slot : ℕ) (e m1 m2 m3 m4 m5 m6 m7 m8 : St)
+      → base ≡ length e.labels → slot ≡ e.slots → m1 ≡ put (opened e 2 1) line (DraftTo Trying (base + 1)) →
+      Emitted m1 m2 body (λ ls. frame_there base 2 slot ls ∷ env ls) → m3 ≡ put m2 line (DraftOp PopTry) →
+      Emitted m3 m4 other env → m5 ≡ put (marked (put m4 line (DraftTo Always base)) (base + 1)) line
+      (DraftOp (StoreLocal slot)) → Emitted m5 m6 (row clauses) (λ ls. frame_there base 2 slot ls ∷ env ls) →
+      m7 ≡ put (put m6 line (DraftOp (LoadLocal slot))) line (DraftOp Raise) → m8 ≡ marked m7 base →
+      Emitted e m8 (try_except line body clauses other) env
+  try_arm body clauses other base slot e m1 m2 m3 m4 m5 m6 m7 m8 eb es h1 h2 h3 h4 h5 h6 h7 h8 =
+      guarded_arm body other 0 (row clauses) base slot e m1 m2 m3 m4 m5 m6 m7 m8 eb es h1 h2 h3 h4 h5 h6 h7 h8
+
+  pub finally_arm : (inner fin : Piece) (base slot : ℕ) (e m1 m2 m3 m4 m5 m6 m7 m8 : St) → base ≡ length e.labels →
+      slot ≡ e.slots → m1 ≡ put (opened e 2 1) line (DraftTo Trying (base + 1)) →
+      Emitted m1 m2 inner (λ ls. frame_there base 2 slot ls ∷ env ls) → m3 ≡ put m2 line (DraftOp PopTry) →
+      Emitted m3 m4 fin env → m5 ≡ put (marked (put m4 line (DraftTo Always base)) (base + 1)) line
+      (DraftOp (StoreLocal slot)) → Emitted m5 m6 fin env → m7 ≡ put (put m6 line (DraftOp (LoadLocal slot))) line
+      (DraftOp Raise) → m8 ≡ marked m7 base → Emitted e m8 (try_finally line inner fin) env
+  finally_arm inner fin base slot e m1 m2 m3 m4 m5 m6 m7 m8 eb es h1 h2 h3 h4 h5 h6 h7 h8 =
+      guarded_arm inner fin 1 fin base slot e m1 m2 m3 m4 m5 m6 m7 m8 eb es h1 h2 h3 h4 h5 h6 h7 h8
 
   pub return_arm : (x : Piece) (c : List Around) (slot : ℕ) (e m1 m2 m3 : St) → slot ≡ e.slots →
       Puts line (length e.labels) (λ ls. frame_there (length e.labels) 0 slot ls ∷ env ls)

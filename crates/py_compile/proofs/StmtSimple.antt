@@ -26,10 +26,11 @@ use Rattle.py_compile.proofs.Legal.{is_target_of, are_targets, raises, sane_defa
 use Rattle.py_compile.proofs.Ops.{sh}
 use Rattle.py_compile.proofs.Typed.{template_typed}
 use Rattle.py_compile.proofs.Values.{Each, Value, Store, Change, one_is, also_is}
-use Rattle.py_compile.proofs.Blocks.{Does, low, leaves_does, block_does, in_loop, in_clause, nothing_does, return_does, raise_again_does, assign_does, IsHome, expression_does, print_one_does, print_line_does, import_does, raise_one_does, raise_two_does, assert_with_does, assert_alone_does}
+use Rattle.py_compile.proofs.Surrounds.{Does, low, leaves_does, block_does, in_loop, in_clause, nothing_does, return_does, raise_again_does, assign_does, IsHome, expression_does, print_one_does, print_line_does, import_does, raise_one_does, raise_two_does, assert_with_does, assert_alone_does}
 use Rattle.py_compile.proofs.ExprInduct.{Every, every_front, every_back, every_join}
 use Rattle.py_compile.proofs.Homes.{Covered, IsHomed, home_bound}
-use Rattle.py_compile.proofs.ExprTyped.{operator_small, expr_ok, all_ok, if_ok, values_ok, stores_ok, deletes_ok, some_ok}
+use Rattle.py_compile.proofs.SmallNumbers.{operator_small}
+use Rattle.py_compile.proofs.ExprTyped.{expr_ok, all_ok, if_ok, values_ok, stores_ok, deletes_ok, some_ok}
 use Rattle.py_compile.proofs.World.{known, inside, lim, Covers, Wide, wide_to, HasNone, Slotted, fits, first_list}
 
 -- what library modules and their members are is known
@@ -89,155 +90,167 @@ befores k n ln t (u ∷ us) h = let r = befores k n ln u us h.1 in ((also_is k l
 module _ (locals : ℕ → List (List ℕ)) (texts cells : List (List ℕ)) (keys : ℕ → List (List (List ℕ))) (params : List ℕ)
     (none : HasNone locals texts cells keys params) (j : ℕ) (z : Bool) (sl p : ℕ)
     (slotted : Slotted locals texts cells keys params j z sl) where
-  abbrev K : Limits
-  K = lim locals texts cells keys params j sl p
+  abbrev limits : Limits
+  limits = lim locals texts cells keys params j sl p
 
-  abbrev N : Known
-  N = known locals texts cells keys params j z
+  abbrev knows : Known
+  knows = known locals texts cells keys params j z
 
-  abbrev I : Inside
-  I = inside locals texts cells keys params j z
+  abbrev within : Inside
+  within = inside locals texts cells keys params j z
 
-  abbrev W : List Use → Type 0
-  W us = Wide locals texts cells keys params us
+  abbrev AllNumbered : List Use → Type 0
+  AllNumbered us = Wide locals texts cells keys params us
 
-  wide : (us : List Use) → W us → Every (Covered K N I) us
+  wide : (us : List Use) → AllNumbered us → Every (Covered limits knows within) us
   wide us w = wide_to locals texts cells keys params j z sl p us w
 
-  front : (a c : List Use) → W (a ++ c) → W a
+  front : (a c : List Use) → AllNumbered (a ++ c) → AllNumbered a
   front a c w = every_front (Covers locals texts cells keys params) a c w
 
-  back : (a c : List Use) → W (a ++ c) → W c
+  back : (a c : List Use) → AllNumbered (a ++ c) → AllNumbered c
   back a c w = every_back (Covers locals texts cells keys params) a c w
 
   -- expressions
-  pub value_here : (ln : ℕ) (x : Expr) → sane x ≡ true → W (read I x) → Value K (value N ln x)
-  value_here ln x s w = (expr_ok K N I (fits locals texts cells keys params none j z sl p slotted) x).value ln s
-      (wide (read I x) w)
+  pub value_here : (ln : ℕ) (x : Expr) → sane x ≡ true → AllNumbered (read within x) → Value limits (value knows ln x)
+  value_here ln x s w =
+      (expr_ok limits knows within (fits locals texts cells keys params none j z sl p slotted) x).value ln s
+      (wide (read within x) w)
 
-  pub values_here : (ln : ℕ) (xs : List Expr) → all_sane xs ≡ true → W (read_all I xs) → Each (Value K) (values N ln xs)
+  pub values_here : (ln : ℕ) (xs : List Expr) → all_sane xs ≡ true → AllNumbered (read_all within xs) →
+      Each (Value limits) (values knows ln xs)
   values_here ln xs s w = let f = fits locals texts cells keys params none j z sl p slotted in
-      values_ok K N I f ln xs (all_ok K N I f xs) s (wide (read_all I xs) w)
+      values_ok limits knows within f ln xs (all_ok limits knows within f xs) s (wide (read_all within xs) w)
 
-  pub some_here : (ln : ℕ) (x : Option Expr) → sane_some x ≡ true → W (read_some I x) → Value K (value_some N ln x)
+  pub some_here : (ln : ℕ) (x : Option Expr) → sane_some x ≡ true → AllNumbered (read_some within x) →
+      Value limits (value_some knows ln x)
   some_here ln x s w = let f = fits locals texts cells keys params none j z sl p slotted in
-      some_ok K N I f ln x (if_ok K N I f x) s (wide (read_some I x) w)
+      some_ok limits knows within f ln x (if_ok limits knows within f x) s (wide (read_some within x) w)
 
-  pub store_here : (ln : ℕ) (x : Expr) → is_target_of x ≡ true → W (target I x) → Store K (stored N ln x)
+  pub store_here : (ln : ℕ) (x : Expr) → is_target_of x ≡ true → AllNumbered (target within x) →
+      Store limits (stored knows ln x)
   store_here ln x h w = let q = and_parts _ (sane x) h in
-      ((expr_ok K N I (fits locals texts cells keys params none j z sl p slotted) x).place ln q.0 q.1
-      (wide (target I x) w)).store
+      ((expr_ok limits knows within (fits locals texts cells keys params none j z sl p slotted) x).place ln q.0 q.1
+      (wide (target within x) w)).store
 
-  pub stores_here : (ln : ℕ) (xs : List Expr) → are_targets xs ≡ true → W (target_all I xs) →
-      Each (Store K) (all_stored N ln xs)
+  pub stores_here : (ln : ℕ) (xs : List Expr) → are_targets xs ≡ true → AllNumbered (target_all within xs) →
+      Each (Store limits) (all_stored knows ln xs)
   stores_here ln xs h w = let q = and_parts _ (all_sane xs) h in let f =
       fits locals texts cells keys params none j z sl p slotted in
-      stores_ok K N I f ln xs (all_ok K N I f xs) q.0 q.1 (wide (target_all I xs) w)
+      stores_ok limits knows within f ln xs (all_ok limits knows within f xs) q.0 q.1 (wide (target_all within xs) w)
 
-  pub deletes_here : (ln : ℕ) (xs : List Expr) → are_targets xs ≡ true → W (target_all I xs) →
-      Each (Does K []) (all_deleted N ln xs)
+  pub deletes_here : (ln : ℕ) (xs : List Expr) → are_targets xs ≡ true → AllNumbered (target_all within xs) →
+      Each (Does limits []) (all_deleted knows ln xs)
   deletes_here ln xs h w = let q = and_parts _ (all_sane xs) h in let f =
       fits locals texts cells keys params none j z sl p slotted in
-      deletes_ok K N I f ln xs (all_ok K N I f xs) q.0 q.1 (wide (target_all I xs) w)
+      deletes_ok limits knows within f ln xs (all_ok limits knows within f xs) q.0 q.1 (wide (target_all within xs) w)
 
-  pub home_here : (x : List ℕ) → W (name_bound I x) → IsHomed K (home N x)
-  home_here x w = home_bound K N I (fits locals texts cells keys params none j z sl p slotted) x
-      (wide (name_bound I x) w)
+  pub home_here : (x : List ℕ) → AllNumbered (name_bound within x) → IsHomed limits (home knows x)
+  home_here x w = home_bound limits knows within (fits locals texts cells keys params none j z sl p slotted) x
+      (wide (name_bound within x) w)
 
-  cells_here : 20 < K.cells
+  cells_here : 20 < limits.cells
   cells_here = omega arith
 
   -- simple statements
-  pub do_here : (c : List Around) (ln : ℕ) (x : Expr) → sane x ≡ true → W (read I x) →
-      Does K c (expression ln (value N ln x))
-  do_here c ln x s w = expression_does K ln c (value N ln x) (value_here ln x s w)
+  pub do_here : (c : List Around) (ln : ℕ) (x : Expr) → sane x ≡ true → AllNumbered (read within x) →
+      Does limits c (expression ln (value knows ln x))
+  do_here c ln x s w = expression_does limits ln c (value knows ln x) (value_here ln x s w)
 
   pub assign_here : (c : List Around) (ln : ℕ) (ts : List Expr) (x : Expr) → (are_targets ts && sane x) ≡ true →
-      W (target_all I ts ++ read I x) → Does K c (assigned N ln ts x)
-  assign_here c ln [] x h w = nothing_does K ln c
+      AllNumbered (target_all within ts ++ read within x) → Does limits c (assigned knows ln ts x)
+  assign_here c ln [] x h w = nothing_does limits ln c
   assign_here c ln (t ∷ ts) x h w =
       let q = and_parts (are_targets (t ∷ ts)) (sane x) h in
-      let s = befores K N ln t ts (stores_here ln (t ∷ ts) q.0 (front (target_all I (t ∷ ts)) (read I x) w)) in
-      assign_does K ln c (value N ln x) (stores_before N ln t ts) (stored N ln (last_target t ts))
-      (value_here ln x q.1 (back (target_all I (t ∷ ts)) (read I x) w)) s.0 s.1
+      let s = befores limits knows ln t ts
+      (stores_here ln (t ∷ ts) q.0 (front (target_all within (t ∷ ts)) (read within x) w)) in
+      assign_does limits ln c (value knows ln x) (stores_before knows ln t ts) (stored knows ln (last_target t ts))
+      (value_here ln x q.1 (back (target_all within (t ∷ ts)) (read within x) w)) s.0 s.1
 
   pub augment_here : (c : List Around) (ln : ℕ) (t : Expr) (o : Operator) (x : Expr) →
-      ((is_single false (form t) && sane t) && sane x) ≡ true → W (read I t ++ target I t ++ read I x) →
-      Does K c (add_at ln (coded N ln t).place (operator o) (value N ln x))
+      ((is_single false (form t) && sane t) && sane x) ≡ true →
+      AllNumbered (read within t ++ target within t ++ read within x) →
+      Does limits c (add_at ln (coded knows ln t).place (operator o) (value knows ln x))
   augment_here c ln t o x h w =
       let q = and_parts (is_single false (form t) && sane t) (sane x) h in
       let r = and_parts (is_single false (form t)) (sane t) q.0 in
-      let u = back (read I t) (target I t) (front (read I t ++ target I t) (read I x) w) in
-      ((expr_ok K N I (fits locals texts cells keys params none j z sl p slotted) t).add ln r.0 r.1
-      (wide (target I t) u)).add c (operator o) (value N ln x) (operator_small o)
-      (value_here ln x q.1 (back (read I t ++ target I t) (read I x) w))
+      let u = back (read within t) (target within t) (front (read within t ++ target within t) (read within x) w) in
+      ((expr_ok limits knows within (fits locals texts cells keys params none j z sl p slotted) t).add ln r.0 r.1
+      (wide (target within t) u)).add c (operator o) (value knows ln x) (operator_small o)
+      (value_here ln x q.1 (back (read within t ++ target within t) (read within x) w))
 
-  pub print_here : (c : List Around) (ln : ℕ) (xs : List Expr) (b : Bool) → all_sane xs ≡ true → W (read_all I xs) →
-      Does K c (printed N ln xs b)
-  print_here c ln xs true s w = block_does K c (map (print_one ln) (values N ln xs))
-      (prints K ln c (values N ln xs) (values_here ln xs s w))
-  print_here c ln xs false s w = print_line_does K ln c (values N ln xs) (values_here ln xs s w)
+  pub print_here : (c : List Around) (ln : ℕ) (xs : List Expr) (b : Bool) → all_sane xs ≡ true →
+      AllNumbered (read_all within xs) →
+      Does limits c (printed knows ln xs b)
+  print_here c ln xs true s w = block_does limits c (map (print_one ln) (values knows ln xs))
+      (prints limits ln c (values knows ln xs) (values_here ln xs s w))
+  print_here c ln xs false s w = print_line_does limits ln c (values knows ln xs) (values_here ln xs s w)
 
-  pub return_here : (c : List Around) (ln : ℕ) (x : Option Expr) → sane_some x ≡ true → W (read_some I x) →
-      Does K c (return ln (value_some N ln x) c)
-  return_here c ln x s w = leaves_does K c (return ln (value_some N ln x) c)
-      (return_does K ln (value_some N ln x) c (some_here ln x s w))
+  pub return_here : (c : List Around) (ln : ℕ) (x : Option Expr) → sane_some x ≡ true →
+      AllNumbered (read_some within x) →
+      Does limits c (return ln (value_some knows ln x) c)
+  return_here c ln x s w = leaves_does limits c (return ln (value_some knows ln x) c)
+      (return_does limits ln (value_some knows ln x) c (some_here ln x s w))
 
-  pub raise_here : (c : List Around) (ln : ℕ) (x v : Option Expr) → raises x v (in_loop K c) (in_clause K c) ≡ true →
-      W (read_some I x ++ read_some I v) → Does K c (raised N ln c x v)
-  raise_here c ln None v h w = leaves_does K c (raise_again ln c) (raise_again_does K ln c h)
+  pub raise_here : (c : List Around) (ln : ℕ) (x v : Option Expr) → raises x v (in_loop limits c) (in_clause limits c)
+      ≡ true →
+      AllNumbered (read_some within x ++ read_some within v) → Does limits c (raised knows ln c x v)
+  raise_here c ln None v h w = leaves_does limits c (raise_again ln c) (raise_again_does limits ln c h)
   raise_here c ln (Some x) None h w = let q = and_parts (sane x) true h in
-      leaves_does K c (raise_one ln (value N ln x))
-      (raise_one_does K ln c (value N ln x) (value_here ln x q.0 (front (read I x) [] w)))
+      leaves_does limits c (raise_one ln (value knows ln x))
+      (raise_one_does limits ln c (value knows ln x) (value_here ln x q.0 (front (read within x) [] w)))
   raise_here c ln (Some x) (Some v) h w = let q = and_parts (sane x) (sane v) h in
-      leaves_does K c (raise_two ln (value N ln x) (value N ln v))
-      (raise_two_does K ln c (value N ln x) (value N ln v) (value_here ln x q.0 (front (read I x) (read I v) w))
-      (value_here ln v q.1 (back (read I x) (read I v) w)))
+      leaves_does limits c (raise_two ln (value knows ln x) (value knows ln v))
+      (raise_two_does limits ln c (value knows ln x) (value knows ln v)
+      (value_here ln x q.0 (front (read within x) (read within v) w))
+      (value_here ln v q.1 (back (read within x) (read within v) w)))
 
-  pub del_here : (c : List Around) (ln : ℕ) (ts : List Expr) → are_targets ts ≡ true → W (target_all I ts) →
-      Does K c (deletion ln (all_deleted N ln ts))
-  del_here c ln ts h w = deletion_does K ln c (all_deleted N ln ts)
-      (block_does K [] (all_deleted N ln ts) (deletes_here ln ts h w))
+  pub del_here : (c : List Around) (ln : ℕ) (ts : List Expr) → are_targets ts ≡ true →
+      AllNumbered (target_all within ts) →
+      Does limits c (deletion ln (all_deleted knows ln ts))
+  del_here c ln ts h w = deletion_does limits ln c (all_deleted knows ln ts)
+      (block_does limits [] (all_deleted knows ln ts) (deletes_here ln ts h w))
 
   pub assert_here : (c : List Around) (ln : ℕ) (t : Expr) (m : Option Expr) → (sane t && sane_some m) ≡ true →
-      W (read I t ++ read_some I m) → Does K c (asserted N ln t m)
+      AllNumbered (read within t ++ read_some within m) → Does limits c (asserted knows ln t m)
   assert_here c ln t None h w = let q = and_parts (sane t) true h in
-      assert_alone_does K ln c (value N ln t) (omega arith) (value_here ln t q.0 (front (read I t) [] w))
+      assert_alone_does limits ln c (value knows ln t) (omega arith) (value_here ln t q.0 (front (read within t) [] w))
   assert_here c ln t (Some m) h w =
       let q = and_parts (sane t) (sane m) h in
-      let f = first_list locals texts cells keys params (keys j) (none j).0 (text N) (none j).1 in
-      assert_with_does K ln c (value N ln t) (value N ln m) (omega arith) f.0 f.1
-      (value_here ln t q.0 (front (read I t) (read I m) w)) (value_here ln m q.1 (back (read I t) (read I m) w))
+      let f = first_list locals texts cells keys params (keys j) (none j).0 (text knows) (none j).1 in
+      assert_with_does limits ln c (value knows ln t) (value knows ln m) (omega arith) f.0 f.1
+      (value_here ln t q.0 (front (read within t) (read within m) w))
+      (value_here ln m q.1 (back (read within t) (read within m) w))
 
-  imports_here : (c : List Around) (ln : ℕ) (is : List Imported) → W (import_use I is) →
-      Each (Does K c) (imported N ln is)
+  imports_here : (c : List Around) (ln : ℕ) (is : List Imported) → AllNumbered (import_use within is) →
+      Each (Does limits c) (imported knows ln is)
   imports_here c ln [] w = tt
   imports_here c ln (i ∷ is) w =
       let x = bound_name i.name i.bound in (
-        import_does K ln c (library i.name) (home N x)
-            (homed_is K ln (home N x) (home_here x (front (name_bound I x) (import_use I is) w)))
-            (library_known K i.name),
-        imports_here c ln is (back (name_bound I x) (import_use I is) w),
+        import_does limits ln c (library i.name) (home knows x)
+            (homed_is limits ln (home knows x) (home_here x (front (name_bound within x) (import_use within is) w)))
+            (library_known limits i.name),
+        imports_here c ln is (back (name_bound within x) (import_use within is) w),
       )
 
-  pub import_here : (c : List Around) (ln : ℕ) (is : List Imported) → W (import_use I is) →
-      Does K c (row (imported N ln is))
-  import_here c ln is w = block_does K c (imported N ln is) (imports_here c ln is w)
+  pub import_here : (c : List Around) (ln : ℕ) (is : List Imported) → AllNumbered (import_use within is) →
+      Does limits c (row (imported knows ln is))
+  import_here c ln is w = block_does limits c (imported knows ln is) (imports_here c ln is w)
 
-  froms_here : (c : List Around) (ln : ℕ) (is : List Imported) → W (import_use I is) →
-      Each (Does K c) (taken_from N ln is)
+  froms_here : (c : List Around) (ln : ℕ) (is : List Imported) → AllNumbered (import_use within is) →
+      Each (Does limits c) (taken_from knows ln is)
   froms_here c ln [] w = tt
   froms_here c ln (i ∷ is) w =
       let x = bound_name i.name i.bound in (
-        import_does K ln c (member i.name) (home N x)
-            (homed_is K ln (home N x) (home_here x (front (name_bound I x) (import_use I is) w)))
-            (member_known K i.name cells_here),
-        froms_here c ln is (back (name_bound I x) (import_use I is) w),
+        import_does limits ln c (member i.name) (home knows x)
+            (homed_is limits ln (home knows x) (home_here x (front (name_bound within x) (import_use within is) w)))
+            (member_known limits i.name cells_here),
+        froms_here c ln is (back (name_bound within x) (import_use within is) w),
       )
 
-  pub from_here : (c : List Around) (ln : ℕ) (is : List Imported) → W (import_use I is) →
-      Does K c (row (taken_from N ln is))
-  from_here c ln is w = block_does K c (taken_from N ln is) (froms_here c ln is w)
+  pub from_here : (c : List Around) (ln : ℕ) (is : List Imported) → AllNumbered (import_use within is) →
+      Does limits c (row (taken_from knows ln is))
+  from_here c ln is w = block_does limits c (taken_from knows ln is) (froms_here c ln is w)
 
   -- defaults and a base
   defaults_sane : (ps : List Param) → sane_defaults ps ≡ true → all_sane (defaults ps) ≡ true
@@ -250,21 +263,23 @@ module _ (locals : ℕ → List (List ℕ)) (texts cells : List (List ℕ)) (key
       by_default None s r = r
       by_default (Some x) s r = rw s r
 
-  defaults_wide : (ps : List Param) → W (read_defaults I ps) → W (read_all I (defaults ps))
+  defaults_wide : (ps : List Param) → AllNumbered (read_defaults within ps) →
+      AllNumbered (read_all within (defaults ps))
   defaults_wide [] w = tt
-  defaults_wide (q ∷ ps) w = by_default q.default (front (read_some I q.default) (read_defaults I ps) w)
-      (defaults_wide ps (back (read_some I q.default) (read_defaults I ps) w))
+  defaults_wide (q ∷ ps) w = by_default q.default (front (read_some within q.default) (read_defaults within ps) w)
+      (defaults_wide ps (back (read_some within q.default) (read_defaults within ps) w))
     where
-      by_default : (d : Option Expr) → W (read_some I d) → W (read_all I (defaults ps)) →
-          W (read_all I (default_or d (defaults ps)))
+      by_default : (d : Option Expr) → AllNumbered (read_some within d) → AllNumbered (read_all within (defaults ps)) →
+          AllNumbered (read_all within (default_or d (defaults ps)))
       by_default None s r = r
-      by_default (Some x) s r = every_join (Covers locals texts cells keys params) (read I x)
-          (read_all I (defaults ps)) s r
+      by_default (Some x) s r = every_join (Covers locals texts cells keys params) (read within x)
+          (read_all within (defaults ps)) s r
 
-  pub defaults_here : (ln : ℕ) (ps : List Param) → sane_defaults ps ≡ true → W (read_defaults I ps) →
-      Each (Value K) (values N ln (defaults ps))
+  pub defaults_here : (ln : ℕ) (ps : List Param) → sane_defaults ps ≡ true → AllNumbered (read_defaults within ps) →
+      Each (Value limits) (values knows ln (defaults ps))
   defaults_here ln ps s w = values_here ln (defaults ps) (defaults_sane ps s) (defaults_wide ps w)
 
-  pub base_here : (ln : ℕ) (x : Option Expr) → sane_some x ≡ true → W (read_some I x) → Value K (base N ln x)
-  base_here ln None s w = one_is K ln (Const (Root 1)) (refl, refl, refl, (omega arith, omega arith))
+  pub base_here : (ln : ℕ) (x : Option Expr) → sane_some x ≡ true → AllNumbered (read_some within x) →
+      Value limits (base knows ln x)
+  base_here ln None s w = one_is limits ln (Const (Root 1)) (refl, refl, refl, (omega arith, omega arith))
   base_here ln (Some x) s w = value_here ln x s w

@@ -185,7 +185,8 @@ module _ (k : Limits) where
       some = omega (arith, vb.some);
       typed = λ h bs le room.
           let g : Ring = own_ring 0 (Some (sh (h + 1) bs) ∷ []) in
-          template_typed k ln 0 1 (Sub 0 (row ps) ∷ Alone b ∷ Here E ∷ []) (Some (sh (h + 1) bs) ∷ []) [] _ _ refl refl (
+          template_typed k ln 0 1 (Sub 0 (row ps) ∷ Alone b ∷ Here E ∷ []) (Some (sh (h + 1) bs) ∷ []) [] _ _ refl
+          refl (
             sh h bs,
             same (g ∷ []) ps (sh h bs) (each_kept (g ∷ []) h bs ps refl le vs (omega (arith, room))),
             (sh (h + 1) bs, vb.typed h bs le (omega (arith, room)), (sh (h + 1) bs, (refl, refl), refl)),

@@ -5,9 +5,10 @@ use Rattle.py_compile.specs.Names.{Known, text, cell, first_cell}
 use Rattle.py_code.specs.Right.{first_text}
 use Rattle.py_compile.specs.Uses.{Use, Text, Global, Keys, Inside}
 use Rattle.py_compile.specs.Statements.{Body}
-use Rattle.py_compile.proofs.Blocks.{Does}
+use Rattle.py_compile.proofs.Surrounds.{Does}
 use Rattle.py_compile.proofs.ExprInduct.{Every}
 use Rattle.py_compile.proofs.Homes.{KeysFit, Covered, Fits}
+use Rattle.py_compile.proofs.EachFrom.{EachFrom}
 
 module _ (locals : ℕ → List (List ℕ)) (texts cells : List (List ℕ)) (keys : ℕ → List (List (List ℕ))) (params : List ℕ)
   where
@@ -64,28 +65,17 @@ module _ (locals : ℕ → List (List ℕ)) (texts cells : List (List ℕ)) (key
     pub fits : HasNone → (j : ℕ) (z : Bool) (sl p : ℕ) → Slotted j z sl → Fits (lim j sl p) (known j z) (inside j z)
     fits none j z sl p s = record { names = refl; kind = refl; slots = s; strings = omega arith; classes = omega arith }
 
-    -- these bodies are those from number f on: they have as many parameters as the codes of these numbers
+    -- the body of this number: it has as many parameters as the code of this number
+    abbrev pub IsAt : ℕ → Body → Type 0
+    IsAt f y = (f < length params) × (get_or params f 0 ≡ y.params)
+
+    -- these bodies are those from number f on
     abbrev pub Standing : ℕ → List Body → Type 0
-    Standing f [] = Unit {0}
-    Standing f (y ∷ ys) = (f < length params) × (get_or params f 0 ≡ y.params) × Standing (f + 1) ys
+    Standing = EachFrom IsAt
 
-    pub stand_front : (f : ℕ) (a c : List Body) → Standing f (a ++ c) → Standing f a
-    stand_front f [] c h = tt
-    stand_front f (y ∷ a) c h = (h.0, h.1, stand_front (f + 1) a c h.2)
+    -- the code of a body does what a block does
+    abbrev pub DoesIn : ℕ → Body → Type 0
+    DoesIn f y = (sl p : ℕ) → Slotted f y.is_class sl → Does (lim f sl p) [] (y.block (known f y.is_class))
 
-    pub stand_back : (f m : ℕ) (a c : List Body) → length a ≡ m → Standing f (a ++ c) → Standing (f + m) c
-    stand_back f m [] c e h = let k : f ≡ f + m = omega (arith, e) in subst (λ g. Standing g c) k h
-    stand_back f m (y ∷ a) c e h = let k : f + 1 + length a ≡ f + m = omega (arith, e) in
-        subst (λ g. Standing g c) k (stand_back (f + 1) (length a) a c refl h.2)
-
-    -- the code of each of these bodies does what a block does
     abbrev pub BodiesOk : ℕ → List Body → Type 0
-    BodiesOk f [] = Unit {0}
-    BodiesOk f (y ∷ ys) = ((sl p : ℕ) → Slotted f y.is_class sl → Does (lim f sl p) [] (y.block (known f y.is_class))) ×
-        BodiesOk (f + 1) ys
-
-    pub bodies_join : (f m : ℕ) (a c : List Body) → length a ≡ m → BodiesOk f a → BodiesOk (f + m) c →
-        BodiesOk f (a ++ c)
-    bodies_join f m [] c e h g = let k : f + m ≡ f = omega (arith, e) in subst (λ i. BodiesOk i c) k g
-    bodies_join f m (y ∷ a) c e h g = let k : f + m ≡ f + 1 + length a = omega (arith, e) in
-        (h.0, bodies_join (f + 1) (length a) a c refl h.1 (subst (λ i. BodiesOk i c) k g))
+    BodiesOk = EachFrom DoesIn

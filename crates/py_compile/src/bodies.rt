@@ -2,7 +2,7 @@
 ghost use Rattle.std.specs.Prelude.{◌≡◌, ◌+◌, ◌++◌, IfOk, OnOk, length, [], ◌∷◌};
 ghost use Rattle.py_compile.specs.inner.Compounds.{otherwise, tried_of};
 ghost use Rattle.py_compile.specs.inner.Gathered.{numbered};
-ghost use Rattle.py_compile.specs.Statements.{all_stated, armed_count, armed_inner, count, handled_count, handled_inner, stated, stated_arms, stated_block, stated_handlers};
+ghost use Rattle.py_compile.specs.Statements.{all_stated, armed_count, armed_inner, count, handled_count, handled_inner, inners, stated, stated_arms, stated_block, stated_handlers};
 ghost use Rattle.py_compile.specs.inner.Weights.{weights, weights_some};
 
 use crate::count::to_u32;
@@ -58,34 +58,16 @@ fn bodies_in(x: &Stmt) -> Result<u32, NoMemory>
             let n = sum(a, b)?;
             Ok(n)
         }
-        Stmt::While(arm, other) => {
-            let a = bodies_in_block(arm.body.as_slice())?;
-            let b = bodies_in_block(clause_body(other))?;
-            let n = sum(a, b)?;
-            Ok(n)
-        }
-        Stmt::For(_, _, _, body, other) => {
-            let a = bodies_in_block(body.as_slice())?;
-            let b = bodies_in_block(clause_body(other))?;
-            let n = sum(a, b)?;
-            Ok(n)
-        }
+        Stmt::While(arm, other) => bodies_in_both(arm.body.as_slice(), other),
+        Stmt::For(_, _, _, body, other) => bodies_in_both(body.as_slice(), other),
         Stmt::Try(block, handlers, other, last) => {
             let a = bodies_in_try(block, handlers.as_slice(), other)?;
             let b = bodies_in_block(clause_body(last))?;
             let n = sum(a, b)?;
             Ok(n)
         }
-        Stmt::Def(_, _, _, body) => {
-            let a = bodies_in_block(body.as_slice())?;
-            let n = sum(1, a)?;
-            Ok(n)
-        }
-        Stmt::Class(_, _, _, body) => {
-            let a = bodies_in_block(body.as_slice())?;
-            let n = sum(1, a)?;
-            Ok(n)
-        }
+        Stmt::Def(_, _, _, body) => bodies_with(body.as_slice()),
+        Stmt::Class(_, _, _, body) => bodies_with(body.as_slice()),
         Stmt::Do(_, _)
         | Stmt::Assign(_, _, _)
         | Stmt::Augment(_, _, _, _)
@@ -101,6 +83,27 @@ fn bodies_in(x: &Stmt) -> Result<u32, NoMemory>
         | Stmt::Import(_, _)
         | Stmt::From(_, _, _) => Ok(0),
     }
+}
+
+/// How many stand in a block and the clause behind it.
+#[cycle(counts)]
+fn bodies_in_both(items: &[Stmt], other: &Option<Clause>) -> Result<u32, NoMemory>
+    ensures { IfOk result (λ n. n ≡ count (all_stated items.now) + (otherwise other.now).bodies) }
+{
+    let a = bodies_in_block(items)?;
+    let b = bodies_in_block(clause_body(other))?;
+    let n = sum(a, b)?;
+    Ok(n)
+}
+
+/// A body, with those that stand in its block.
+#[cycle(counts)]
+fn bodies_with(items: &[Stmt]) -> Result<u32, NoMemory>
+    ensures { IfOk result (λ n. n ≡ 1 + count (all_stated items.now)) }
+{
+    let a = bodies_in_block(items)?;
+    let n = sum(1, a)?;
+    Ok(n)
 }
 
 /// How many stand in a `try` without its finally. Without except clauses it has no else.
@@ -173,7 +176,8 @@ fn bodies_in_handlers(items: &[Handler]) -> Result<u32, NoMemory>
 /// Adds the bodies in these statements, in the order of the text, outer ones before inner ones.
 #[cycle(gatherings)]
 pub fn gather<'a>(out: &mut Items<Body<'a>>, items: &'a [Stmt]) -> Result<(), NoMemory>
-    ensures bodies { OnOk result (numbered 0 out.new ≡ numbered 0 out.old ++ (stated_block items.now).inner (length out.old)) }
+    ensures bodies { OnOk result (numbered 0 out.new ≡ numbered 0 out.old
+        ++ (stated_block items.now).inner (length out.old)) }
     ensures more { OnOk result (length out.new ≡ length out.old + count (all_stated items.now)) }
 {
     let mut rest = items;
@@ -197,16 +201,8 @@ fn gather_one<'a>(out: &mut Items<Body<'a>>, x: &'a Stmt) -> Result<(), NoMemory
             gather(out, clause_body(other))?;
             Ok(())
         }
-        Stmt::While(arm, other) => {
-            gather(out, arm.body.as_slice())?;
-            gather(out, clause_body(other))?;
-            Ok(())
-        }
-        Stmt::For(_, _, _, body, other) => {
-            gather(out, body.as_slice())?;
-            gather(out, clause_body(other))?;
-            Ok(())
-        }
+        Stmt::While(arm, other) => gather_both(out, arm.body.as_slice(), other),
+        Stmt::For(_, _, _, body, other) => gather_both(out, body.as_slice(), other),
         Stmt::Try(block, handlers, other, last) => {
             gather_try(out, block, handlers.as_slice(), other)?;
             gather(out, clause_body(last))?;
@@ -242,6 +238,24 @@ fn gather_one<'a>(out: &mut Items<Body<'a>>, x: &'a Stmt) -> Result<(), NoMemory
     }
 }
 
+/// Adds the bodies in a block and in the clause behind it.
+#[cycle(gatherings)]
+fn gather_both<'a>(
+    out: &mut Items<Body<'a>>,
+    items: &'a [Stmt],
+    other: &'a Option<Clause>,
+) -> Result<(), NoMemory>
+    ensures bodies { OnOk result (numbered 0 out.new ≡ numbered 0 out.old
+        ++ (inners (all_stated items.now) (length out.old)
+        ++ (otherwise other.now).inner (length out.old + count (all_stated items.now)))) }
+    ensures more { OnOk result (length out.new
+        ≡ length out.old + (count (all_stated items.now) + (otherwise other.now).bodies)) }
+{
+    gather(out, items)?;
+    gather(out, clause_body(other))?;
+    Ok(())
+}
+
 /// Adds a body.
 fn add<'a>(
     out: &mut Items<Body<'a>>,
@@ -251,7 +265,14 @@ fn add<'a>(
     params: u32,
     block: &'a [Stmt],
 ) -> Result<(), NoMemory>
-    ensures bodies { OnOk result (numbered 0 out.new ≡ numbered 0 out.old ++ record { line = line; name = name.now; is_class = is_class; params = params; block = λ n. (stated_block block.now).code n [] (length out.old + 1) } ∷ []) }
+    ensures bodies { OnOk result (numbered 0 out.new ≡ numbered 0 out.old
+        ++ record {
+          line = line;
+          name = name.now;
+          is_class = is_class;
+          params = params;
+          block = λ n. (stated_block block.now).code n [] (length out.old + 1);
+        } ∷ []) }
     ensures more { OnOk result (length out.new ≡ length out.old + 1) }
 {
     out.push(Body {
@@ -267,7 +288,8 @@ fn add<'a>(
 /// Adds the bodies in the arms of an `if`.
 #[cycle(gatherings)]
 fn gather_arms<'a>(out: &mut Items<Body<'a>>, items: &'a [Arm]) -> Result<(), NoMemory>
-    ensures bodies { OnOk result (numbered 0 out.new ≡ numbered 0 out.old ++ armed_inner (stated_arms items.now) (length out.old)) }
+    ensures bodies { OnOk result (numbered 0 out.new ≡ numbered 0 out.old
+        ++ armed_inner (stated_arms items.now) (length out.old)) }
     ensures more { OnOk result (length out.new ≡ length out.old + armed_count (stated_arms items.now)) }
 {
     let mut rest = items;
@@ -281,7 +303,8 @@ fn gather_arms<'a>(out: &mut Items<Body<'a>>, items: &'a [Arm]) -> Result<(), No
 /// Adds the bodies in except clauses.
 #[cycle(gatherings)]
 fn gather_handlers<'a>(out: &mut Items<Body<'a>>, items: &'a [Handler]) -> Result<(), NoMemory>
-    ensures bodies { OnOk result (numbered 0 out.new ≡ numbered 0 out.old ++ handled_inner (stated_handlers items.now) (length out.old)) }
+    ensures bodies { OnOk result (numbered 0 out.new ≡ numbered 0 out.old
+        ++ handled_inner (stated_handlers items.now) (length out.old)) }
     ensures more { OnOk result (length out.new ≡ length out.old + handled_count (stated_handlers items.now)) }
 {
     let mut rest = items;
@@ -300,7 +323,8 @@ fn gather_try<'a>(
     handlers: &'a [Handler],
     other: &'a Option<Clause>,
 ) -> Result<(), NoMemory>
-    ensures bodies { OnOk result (numbered 0 out.new ≡ numbered 0 out.old ++ (tried_of block.now handlers.now other.now).inner (length out.old)) }
+    ensures bodies { OnOk result (numbered 0 out.new ≡ numbered 0 out.old
+        ++ (tried_of block.now handlers.now other.now).inner (length out.old)) }
     ensures more { OnOk result (length out.new ≡ length out.old + (tried_of block.now handlers.now other.now).bodies) }
 {
     match split(handlers) {

@@ -28,8 +28,10 @@ use std::alloc::Global;
 
 /// The instructions of a body that isn't the module's, whose own bodies are numbered from that number on.
 fn emit_inner(e: &mut Emitter, names: &Names, body: &Body, first: u32) -> Result<(), Fault>
-    ensures done { IfOk result (λ _. Emitted e.old e.new (body_code body.now.line ((stated_block body.now.block.now).code names.now [] first)) no_frames) }
-    ensures large { result ≡ Err Fault.TooLarge → 65535 < length e.old.code + (body_code body.now.line ((stated_block body.now.block.now).code names.now [] first)).size }
+    ensures done { IfOk result (λ _. Emitted e.old e.new
+        (body_code body.now.line ((stated_block body.now.block.now).code names.now [] first)) no_frames) }
+    ensures large { result ≡ Err Fault.TooLarge → 65535 < length e.old.code
+        + (body_code body.now.line ((stated_block body.now.block.now).code names.now [] first)).size }
 {
     let (plans, _) = planning::block(e.alloc(), body.block, first)?;
     block(e, names, plans.as_slice(), &Around::Body)?;
@@ -40,8 +42,10 @@ fn emit_inner(e: &mut Emitter, names: &Names, body: &Body, first: u32) -> Result
 
 /// The instructions of the module's body.
 fn emit_module(e: &mut Emitter, names: &Names, body: &Body) -> Result<(), Fault>
-    ensures done { IfOk result (λ _. Emitted e.old e.new (module_code body.now.line ((stated_block body.now.block.now).code names.now [] 1)) no_frames) }
-    ensures large { result ≡ Err Fault.TooLarge → 65535 < length e.old.code + (module_code body.now.line ((stated_block body.now.block.now).code names.now [] 1)).size }
+    ensures done { IfOk result (λ _. Emitted e.old e.new
+        (module_code body.now.line ((stated_block body.now.block.now).code names.now [] 1)) no_frames) }
+    ensures large { result ≡ Err Fault.TooLarge → 65535 < length e.old.code
+        + (module_code body.now.line ((stated_block body.now.block.now).code names.now [] 1)).size }
 {
     e.put(body.line, Draft::Op(Instr::Setup))?;
     let (plans, _) = planning::block(e.alloc(), body.block, 1)?;
@@ -55,7 +59,8 @@ fn emit_module(e: &mut Emitter, names: &Names, body: &Body) -> Result<(), Fault>
 fn emit(e: &mut Emitter, names: &Names, number: usize, body: &Body) -> Result<(), Fault>
     requires { number < 65535 }
     ensures done { IfOk result (λ _. Emitted e.old e.new (whole number (body_of number body.now) names.now) no_frames) }
-    ensures large { result ≡ Err Fault.TooLarge → 65535 < length e.old.code + (whole number (body_of number body.now) names.now).size }
+    ensures large { result ≡ Err Fault.TooLarge
+        → 65535 < length e.old.code + (whole number (body_of number body.now) names.now).size }
 {
     if number == 0 {
         return emit_module(e, names, body);
@@ -133,9 +138,12 @@ fn code<'a>(
     requires place { number < length used.now.keys }
     requires few { number < 65535 }
     requires roots { first_cell used.now.texts used.now.cells + length used.now.cells < 2 ^ 32 }
-    ensures done { IfOk result (λ c. c ≡ code_at number (body_of number body.now) (known_by locals.now used.now number body.now.is_class)) }
-    ensures small { IfOk result (λ _. (whole number (body_of number body.now) (known_by locals.now used.now number body.now.is_class)).size ≤ 65535) }
-    ensures large { result ≡ Err Fault.TooLarge → 65535 < (whole number (body_of number body.now) (known_by locals.now used.now number body.now.is_class)).size }
+    ensures done { IfOk result
+        (λ c. c ≡ code_at number (body_of number body.now) (known_by locals.now used.now number body.now.is_class)) }
+    ensures small { IfOk result (λ _. (whole number (body_of number body.now)
+        (known_by locals.now used.now number body.now.is_class)).size ≤ 65535) }
+    ensures large { result ≡ Err Fault.TooLarge → 65535 < (whole number (body_of number body.now)
+        (known_by locals.now used.now number body.now.is_class)).size }
 {
     let lists = used.lists(number);
     let named = named_slots(body.is_class, locals)?;
@@ -181,8 +189,10 @@ fn one_more<'a>(
     requires place { number < length used.now.keys }
     requires few { number < 65535 }
     requires roots { first_cell used.now.texts used.now.cells + length used.now.cells < 2 ^ 32 }
-    ensures large { IfOk result (λ l. l ≡ least found (large_at number (body_of number body.now) (known_by locals.now used.now number body.now.is_class))) }
-    ensures done { IfOk result (λ l. l ≡ None → out.new ≡ out.old ++ code_at number (body_of number body.now) (known_by locals.now used.now number body.now.is_class) ∷ []) }
+    ensures large { IfOk result (λ l. l ≡ least found (large_at number (body_of number body.now)
+        (known_by locals.now used.now number body.now.is_class))) }
+    ensures done { IfOk result (λ l. l ≡ None → out.new ≡ out.old
+        ++ code_at number (body_of number body.now) (known_by locals.now used.now number body.now.is_class) ∷ []) }
     ensures free { (r : Refusal) → result ≡ Err (CompileError.Refused r) → ⊥ }
 {
     match code(alloc, number, body, locals, used) {

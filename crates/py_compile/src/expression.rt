@@ -91,7 +91,8 @@ pub fn expression(e: &mut Emitter, names: &Names, line: u32, x: &Expr) -> Result
 /// One expression after another.
 pub fn expressions(e: &mut Emitter, names: &Names, line: u32, items: &[Expr]) -> Result<(), Fault>
     ensures done { IfOk result (λ _. Emitted e.old e.new (row (values names.now line items.now)) no_frames) }
-    ensures large { result ≡ Err Fault.TooLarge → 65535 < length e.old.code + (row (values names.now line items.now)).size }
+    ensures large { result ≡ Err Fault.TooLarge
+        → 65535 < length e.old.code + (row (values names.now line items.now)).size }
 {
     run(e, names, line, Task::Values(items))
 }
@@ -118,7 +119,8 @@ fn step<'a>(
     task: Task<'a>,
 ) -> Result<(), Fault>
     ensures done { IfOk result (λ _. Advances names.now line (plain task.entry ∷ tasks.old) e.old tasks.new e.new) }
-    ensures large { result ≡ Err Fault.TooLarge → 65535 < length e.old.code + sizes names.now line (plain task.entry ∷ tasks.old) }
+    ensures large { result ≡ Err Fault.TooLarge
+        → 65535 < length e.old.code + sizes names.now line (plain task.entry ∷ tasks.old) }
 {
     match task {
         Task::Value(x) => value(e, names, tasks, x),
@@ -234,7 +236,8 @@ fn choice<'a>(
     c: &'a Expr,
     b: &'a Expr,
 ) -> Result<(), Fault>
-    ensures done { IfOk result (λ _. (n : Known) (ln : ℕ) → Advances n ln (Value (Choice a.now c.now b.now) ∷ tasks.old) e.old tasks.new e.new) }
+    ensures done { IfOk result (λ _. (n : Known) (ln : ℕ)
+        → Advances n ln (Value (Choice a.now c.now b.now) ∷ tasks.old) e.old tasks.new e.new) }
     ensures small { result ≡ Err Fault.TooLarge → ⊥ }
 {
     let (base, _) = e.begin(2, 0)?;
@@ -255,7 +258,8 @@ fn chain<'a>(
     a: &'a Expr,
     more: &'a [Link],
 ) -> Result<(), Fault>
-    ensures done { IfOk result (λ _. (n : Known) (ln : ℕ) → Advances n ln (Value (Chain level a.now more.now) ∷ tasks.old) e.old tasks.new e.new) }
+    ensures done { IfOk result (λ _. (n : Known) (ln : ℕ)
+        → Advances n ln (Value (Chain level a.now more.now) ∷ tasks.old) e.old tasks.new e.new) }
     ensures small { result ≡ Err Fault.TooLarge → ⊥ }
 {
     match level {
@@ -279,7 +283,8 @@ fn logical<'a>(
     a: &'a Expr,
     more: &'a [Link],
 ) -> Result<(), Fault>
-    ensures done { IfOk result (λ _. (e.new ≡ opened e.old 1 0) × (tasks.new ≡ Kept far (length e.old.labels) a.now more.now ∷ Mark (length e.old.labels) ∷ tasks.old)) }
+    ensures done { IfOk result (λ _. (e.new ≡ opened e.old 1 0)
+        × (tasks.new ≡ Kept far (length e.old.labels) a.now more.now ∷ Mark (length e.old.labels) ∷ tasks.old)) }
     ensures small { result ≡ Err Fault.TooLarge → ⊥ }
 {
     let (base, _) = e.begin(1, 0)?;
@@ -293,7 +298,8 @@ fn comparison<'a>(
     a: &'a Expr,
     more: &'a [Link],
 ) -> Result<(), Fault>
-    ensures done { IfOk result (λ _. (n : Known) (ln : ℕ) → Advances n ln (Value (Chain CompareLevel a.now more.now) ∷ tasks.old) e.old tasks.new e.new) }
+    ensures done { IfOk result (λ _. (n : Known) (ln : ℕ)
+        → Advances n ln (Value (Chain CompareLevel a.now more.now) ∷ tasks.old) e.old tasks.new e.new) }
     ensures small { result ≡ Err Fault.TooLarge → ⊥ }
 {
     match split(more) {
@@ -317,7 +323,10 @@ fn chained<'a>(
     first: &'a Link,
     others: &'a [Link],
 ) -> Result<(), Fault>
-    ensures done { IfOk result (λ _. (e.new ≡ opened e.old 2 0) × (tasks.new ≡ Value a.now ∷ Between (length e.old.labels + 1) first.now others.now ∷ To Always (length e.old.labels) ∷ Mark (length e.old.labels + 1) ∷ Op Rot2 ∷ Op Pop ∷ Mark (length e.old.labels) ∷ tasks.old)) }
+    ensures done { IfOk result (λ _. (e.new ≡ opened e.old 2 0)
+        × (tasks.new ≡ Value a.now ∷ Between (length e.old.labels + 1) first.now others.now
+        ∷ To Always (length e.old.labels) ∷ Mark (length e.old.labels + 1)
+        ∷ Op Rot2 ∷ Op Pop ∷ Mark (length e.old.labels) ∷ tasks.old)) }
     ensures small { result ≡ Err Fault.TooLarge → ⊥ }
 {
     let (base, _) = e.begin(2, 0)?;
@@ -522,7 +531,8 @@ fn method<'a>(
     named: &'a [Named],
     more: &'a [Trailer],
 ) -> Result<(), Fault>
-    ensures done { IfOk result (λ _. Splits names.now (Behind (Attribute name.now ∷ Call items.now named.now ∷ more.now) ∷ tasks.old) tasks.new) }
+    ensures done { IfOk result (λ _. Splits names.now
+        (Behind (Attribute name.now ∷ Call items.now named.now ∷ more.now) ∷ tasks.old) tasks.new) }
     ensures small { result ≡ Err Fault.TooLarge → ⊥ }
 {
     let n = to_u32(items.len())?;

@@ -29,9 +29,16 @@ impl<'s, 'a> Model for Names<'s, 'a> {
 
     ghost Value = { Known };
 
-    ghost view = { λ n. record { is_class = n.is_class; locals = n.locals.now; texts = n.texts.now; cells = n.cells.now; keys = n.keys.now } };
+    ghost view = { λ n. record {
+      is_class = n.is_class;
+      locals = n.locals.now;
+      texts = n.texts.now;
+      cells = n.cells.now;
+      keys = n.keys.now;
+    } };
 
-    ghost invariant = { λ n. (first_cell n.texts.now n.cells.now + length n.cells.now < 2 ^ 32) × (length n.locals.now < 2 ^ 32) × (length n.keys.now < 2 ^ 32) };
+    ghost invariant = { λ n. (first_cell n.texts.now n.cells.now + length n.cells.now < 2 ^ 32)
+        × (length n.locals.now < 2 ^ 32) × (length n.keys.now < 2 ^ 32) };
 }
 
 impl<'s, 'a> Names<'s, 'a> {
@@ -46,7 +53,13 @@ impl<'s, 'a> Names<'s, 'a> {
         requires roots { first_cell texts.now cells.now + length cells.now < 2 ^ 32 }
         requires slots { length locals.now < 2 ^ 32 }
         requires lists { length keys.now < 2 ^ 32 }
-        ensures { result ≡ record { is_class = is_class; locals = locals.now; texts = texts.now; cells = cells.now; keys = keys.now } }
+        ensures { result ≡ record {
+          is_class = is_class;
+          locals = locals.now;
+          texts = texts.now;
+          cells = cells.now;
+          keys = keys.now;
+        } }
     {
         Names {
             is_class,

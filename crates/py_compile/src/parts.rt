@@ -23,9 +23,13 @@ use py_tree::{Arm, Expr, Handler};
 pub fn arm_head(e: &mut Emitter, names: &Names, x: &Arm) -> Result<usize, Fault>
     ensures base { IfOk result (λ next. next ≡ length e.old.labels) }
     ensures labels { IfOk result (λ next. next < length e.new.labels) }
-    ensures done { IfOk result (λ next. (env : List ℕ → List Frame) → Puts x.now.line next (λ ls. frame_there next 1 0 ls ∷ env ls) (Alone (value names.now x.now.line x.now.test) ∷ To 0 JumpFalse 0 ∷ []) (opened e.old 1 0) e.new) }
-    ensures longer { IfOk result (λ _. length e.new.code ≡ length e.old.code + (value names.now x.now.line x.now.test).size + 1) }
-    ensures large { result ≡ Err Fault.TooLarge → 65535 < length e.old.code + (value names.now x.now.line x.now.test).size + 1 }
+    ensures done { IfOk result (λ next. (env : List ℕ → List Frame)
+        → Puts x.now.line next (λ ls. frame_there next 1 0 ls ∷ env ls)
+        (Alone (value names.now x.now.line x.now.test) ∷ To 0 JumpFalse 0 ∷ []) (opened e.old 1 0) e.new) }
+    ensures longer { IfOk result
+        (λ _. length e.new.code ≡ length e.old.code + (value names.now x.now.line x.now.test).size + 1) }
+    ensures large { result ≡ Err Fault.TooLarge
+        → 65535 < length e.old.code + (value names.now x.now.line x.now.test).size + 1 }
 {
     let (next, _) = e.begin(1, 0)?;
     expression(e, names, x.line, &x.test)?;
@@ -49,9 +53,13 @@ pub fn while_head(e: &mut Emitter, names: &Names, x: &Arm) -> Result<usize, Faul
     ensures base { IfOk result (λ base. base ≡ length e.old.labels) }
     ensures labels { IfOk result (λ base. base + 3 ≤ length e.new.labels) }
     ensures fits { IfOk result (λ base. base + 3 < 2 ^ 64) }
-    ensures done { IfOk result (λ base. (env : List ℕ → List Frame) → Puts x.now.line base (λ ls. frame_there base 3 0 ls ∷ env ls) (Here 1 ∷ Alone (value names.now x.now.line x.now.test) ∷ To 0 JumpFalse 2 ∷ []) (opened e.old 3 0) e.new) }
-    ensures longer { IfOk result (λ _. length e.new.code ≡ length e.old.code + (value names.now x.now.line x.now.test).size + 1) }
-    ensures large { result ≡ Err Fault.TooLarge → 65535 < length e.old.code + (value names.now x.now.line x.now.test).size + 1 }
+    ensures done { IfOk result (λ base. (env : List ℕ → List Frame)
+        → Puts x.now.line base (λ ls. frame_there base 3 0 ls ∷ env ls)
+        (Here 1 ∷ Alone (value names.now x.now.line x.now.test) ∷ To 0 JumpFalse 2 ∷ []) (opened e.old 3 0) e.new) }
+    ensures longer { IfOk result
+        (λ _. length e.new.code ≡ length e.old.code + (value names.now x.now.line x.now.test).size + 1) }
+    ensures large { result ≡ Err Fault.TooLarge
+        → 65535 < length e.old.code + (value names.now x.now.line x.now.test).size + 1 }
 {
     let (base, _) = e.begin(3, 0)?;
     e.mark(base + 1);
@@ -71,9 +79,14 @@ pub fn for_head(
     ensures base { IfOk result (λ base. base ≡ length e.old.labels) }
     ensures labels { IfOk result (λ base. base + 3 ≤ length e.new.labels) }
     ensures fits { IfOk result (λ base. base + 3 < 2 ^ 64) }
-    ensures done { IfOk result (λ base. (env : List ℕ → List Frame) → Puts line base (λ ls. frame_there base 3 0 ls ∷ env ls) (Alone (value names.now line x.now) ∷ Op Iter ∷ Here 1 ∷ To 0 Next 2 ∷ Alone (stored names.now line target.now) ∷ []) (opened e.old 3 0) e.new) }
-    ensures longer { IfOk result (λ _. length e.new.code ≡ length e.old.code + (value names.now line x.now).size + 2 + (stored names.now line target.now).size) }
-    ensures large { result ≡ Err Fault.TooLarge → 65535 < length e.old.code + (value names.now line x.now).size + 2 + (stored names.now line target.now).size }
+    ensures done { IfOk result (λ base. (env : List ℕ → List Frame)
+        → Puts line base (λ ls. frame_there base 3 0 ls ∷ env ls)
+        (Alone (value names.now line x.now) ∷ Op Iter ∷ Here 1 ∷ To 0 Next 2
+        ∷ Alone (stored names.now line target.now) ∷ []) (opened e.old 3 0) e.new) }
+    ensures longer { IfOk result (λ _. length e.new.code
+        ≡ length e.old.code + (value names.now line x.now).size + 2 + (stored names.now line target.now).size) }
+    ensures large { result ≡ Err Fault.TooLarge
+        → 65535 < length e.old.code + (value names.now line x.now).size + 2 + (stored names.now line target.now).size }
 {
     let (base, _) = e.begin(3, 0)?;
     expression(e, names, line, x)?;
@@ -124,7 +137,8 @@ pub fn pop_try(e: &mut Emitter, line: u32) -> Result<(), Fault>
 /// The jump to the end, and the place that an exception leads to.
 pub fn catch(e: &mut Emitter, line: u32, base: usize, slot: u32) -> Result<(), Fault>
     requires { base + 3 < 2 ^ 64 }
-    ensures done { IfOk result (λ _. e.new ≡ put (marked (put e.old line (DraftTo Always base)) (base + 1)) line (DraftOp (StoreLocal slot))) }
+    ensures done { IfOk result
+        (λ _. e.new ≡ put (marked (put e.old line (DraftTo Always base)) (base + 1)) line (DraftOp (StoreLocal slot))) }
     ensures longer { IfOk result (λ _. length e.new.code ≡ length e.old.code + 2) }
     ensures large { result ≡ Err Fault.TooLarge → 65535 < length e.old.code + 2 }
 {
@@ -153,9 +167,13 @@ pub fn return_head(
     x: &Option<Expr>,
 ) -> Result<u32, Fault>
     ensures slot { IfOk result (λ slot. slot ≡ e.old.slots) }
-    ensures done { IfOk result (λ slot. (env : List ℕ → List Frame) → Puts line (length e.old.labels) (λ ls. frame_there (length e.old.labels) 0 slot ls ∷ env ls) (Alone (value_some names.now line x.now) ∷ Hidden 0 StoreLocal ∷ []) (opened e.old 0 1) e.new) }
-    ensures longer { IfOk result (λ _. length e.new.code ≡ length e.old.code + (value_some names.now line x.now).size + 1) }
-    ensures large { result ≡ Err Fault.TooLarge → 65535 < length e.old.code + (value_some names.now line x.now).size + 1 }
+    ensures done { IfOk result (λ slot. (env : List ℕ → List Frame)
+        → Puts line (length e.old.labels) (λ ls. frame_there (length e.old.labels) 0 slot ls ∷ env ls)
+        (Alone (value_some names.now line x.now) ∷ Hidden 0 StoreLocal ∷ []) (opened e.old 0 1) e.new) }
+    ensures longer { IfOk result
+        (λ _. length e.new.code ≡ length e.old.code + (value_some names.now line x.now).size + 1) }
+    ensures large { result ≡ Err Fault.TooLarge
+        → 65535 < length e.old.code + (value_some names.now line x.now).size + 1 }
 {
     let (_, slot) = e.begin(0, 1)?;
     value_or_none(e, names, line, x)?;
@@ -181,9 +199,12 @@ pub fn handler_head(
     x: &Handler,
     slot: u32,
 ) -> Result<Option<usize>, Fault>
-    ensures done { IfOk result (λ next. HandlerHead names.now x.now.line x.now.test x.now.target slot next e.old e.new) }
-    ensures longer { IfOk result (λ _. length e.new.code ≡ length e.old.code + handler_size names.now x.now.line x.now.test x.now.target) }
-    ensures large { result ≡ Err Fault.TooLarge → 65535 < length e.old.code + handler_size names.now x.now.line x.now.test x.now.target }
+    ensures done { IfOk result
+        (λ next. HandlerHead names.now x.now.line x.now.test x.now.target slot next e.old e.new) }
+    ensures longer { IfOk result
+        (λ _. length e.new.code ≡ length e.old.code + handler_size names.now x.now.line x.now.test x.now.target) }
+    ensures large { result ≡ Err Fault.TooLarge
+        → 65535 < length e.old.code + handler_size names.now x.now.line x.now.test x.now.target }
 {
     match &x.test {
         None => Ok(None),
@@ -212,8 +233,12 @@ fn handler_test(
 ) -> Result<usize, Fault>
     ensures base { IfOk result (λ next. next ≡ length e.old.labels) }
     ensures labels { IfOk result (λ next. next < length e.new.labels) }
-    ensures done { IfOk result (λ next. (base : ℕ) (env : List ℕ → List Frame) → Puts line next (λ ls. frame_there next 1 0 ls ∷ frame_there base 2 slot ls ∷ env ls) (Hidden 1 LoadLocal ∷ Alone (value names.now line test.now) ∷ Op ExcMatch ∷ To 0 JumpFalse 0 ∷ []) (opened e.old 1 0) e.new) }
-    ensures longer { IfOk result (λ _. length e.new.code ≡ length e.old.code + (value names.now line test.now).size + 3) }
+    ensures done { IfOk result (λ next. (base : ℕ) (env : List ℕ → List Frame)
+        → Puts line next (λ ls. frame_there next 1 0 ls ∷ frame_there base 2 slot ls ∷ env ls)
+        (Hidden 1 LoadLocal ∷ Alone (value names.now line test.now) ∷ Op ExcMatch ∷ To 0 JumpFalse 0 ∷ [])
+        (opened e.old 1 0) e.new) }
+    ensures longer { IfOk result
+        (λ _. length e.new.code ≡ length e.old.code + (value names.now line test.now).size + 3) }
     ensures large { result ≡ Err Fault.TooLarge → 65535 < length e.old.code + (value names.now line test.now).size + 3 }
 {
     let (next, _) = e.begin(1, 0)?;

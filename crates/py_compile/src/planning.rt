@@ -77,7 +77,8 @@ fn def<'a>(
     body: &'a [Stmt],
     first: u32,
 ) -> Result<u32, NoMemory>
-    ensures plans { OnOk result (AddPlans out.old out.new (λ n c. def line (values n line (defaults params.now)) first (home n name.now))) }
+    ensures plans { OnOk result (AddPlans out.old out.new
+        (λ n c. def line (values n line (defaults params.now)) first (home n name.now))) }
     ensures number { IfOk result (λ k. k ≡ first + (1 + count (all_stated body.now))) }
 {
     let number = behind(body, first)?;
@@ -94,7 +95,8 @@ fn class<'a>(
     body: &'a [Stmt],
     first: u32,
 ) -> Result<u32, NoMemory>
-    ensures plans { OnOk result (AddPlans out.old out.new (λ n c. class line (base n line x.now) first (home n name.now))) }
+    ensures plans { OnOk result (AddPlans out.old out.new
+        (λ n c. class line (base n line x.now) first (home n name.now))) }
     ensures number { IfOk result (λ k. k ≡ first + (1 + count (all_stated body.now))) }
 {
     let number = behind(body, first)?;
@@ -147,7 +149,8 @@ fn if_else<'a>(
     first: u32,
 ) -> Result<u32, NoMemory>
     ensures plans { OnOk result (AddPlans out.old out.new (λ n c. if_code n c first items.now other.now)) }
-    ensures number { IfOk result (λ k. k ≡ first + (armed_count (stated_arms items.now) + (otherwise other.now).bodies)) }
+    ensures number { IfOk result
+        (λ k. k ≡ first + (armed_count (stated_arms items.now) + (otherwise other.now).bodies)) }
 {
     let (arms, behind) = arms(alloc, items, first)?;
     let (otherwise, number) = block(alloc, clause_body(other), behind)?;
@@ -162,7 +165,8 @@ fn arms<'a>(
     items: &'a [Arm],
     first: u32,
 ) -> Result<(Items<PlanArm<'a>>, u32), NoMemory>
-    ensures plans { IfOk result (λ r. (n : Known) (c : List Around) → planned_arms r.0 n c ≡ armed (stated_arms items.now) n c first) }
+    ensures plans { IfOk result (λ r. (n : Known) (c : List Around)
+        → planned_arms r.0 n c ≡ armed (stated_arms items.now) n c first) }
     ensures number { IfOk result (λ r. r.1 ≡ first + armed_count (stated_arms items.now)) }
 {
     let mut out = Items::new(alloc);
@@ -207,7 +211,8 @@ fn for_loop<'a>(
     other: &'a Option<Clause>,
     first: u32,
 ) -> Result<u32, NoMemory>
-    ensures plans { OnOk result (AddPlans out.old out.new (λ n c. for_code n c first line target.now x.now body.now other.now)) }
+    ensures plans { OnOk result (AddPlans out.old out.new
+        (λ n c. for_code n c first line target.now x.now body.now other.now)) }
     ensures number { IfOk result (λ k. k ≡ first + (count (all_stated body.now) + (otherwise other.now).bodies)) }
 {
     let (body, behind) = block(alloc, body, first)?;
@@ -223,7 +228,8 @@ fn handlers<'a>(
     items: &'a [Handler],
     first: u32,
 ) -> Result<(Items<PlanHandler<'a>>, u32), NoMemory>
-    ensures plans { IfOk result (λ r. (n : Known) (c : List Around) → planned_handlers r.0 n c ≡ handled (stated_handlers items.now) n c first) }
+    ensures plans { IfOk result (λ r. (n : Known) (c : List Around)
+        → planned_handlers r.0 n c ≡ handled (stated_handlers items.now) n c first) }
     ensures number { IfOk result (λ r. r.1 ≡ first + handled_count (stated_handlers items.now)) }
 {
     let mut out = Items::new(alloc);
@@ -248,7 +254,8 @@ fn tried<'a>(
     other: &'a Option<Clause>,
     first: u32,
 ) -> Result<u32, NoMemory>
-    ensures plans { OnOk result (AddPlans out.old out.new (λ n c. (tried_of x.now items.now other.now).code n c first)) }
+    ensures plans { OnOk result (AddPlans out.old out.new
+        (λ n c. (tried_of x.now items.now other.now).code n c first)) }
     ensures number { IfOk result (λ k. k ≡ first + (tried_of x.now items.now other.now).bodies) }
 {
     match split(items) {
@@ -274,8 +281,10 @@ fn tried_finally<'a>(
     last: &'a Clause,
     first: u32,
 ) -> Result<u32, NoMemory>
-    ensures plans { OnOk result (AddPlans out.old out.new (λ n c. finally_code n c first x.now items.now other.now last.now)) }
-    ensures number { IfOk result (λ k. k ≡ first + ((tried_of x.now items.now other.now).bodies + count (all_stated last.now.body))) }
+    ensures plans { OnOk result (AddPlans out.old out.new
+        (λ n c. finally_code n c first x.now items.now other.now last.now)) }
+    ensures number { IfOk result
+        (λ k. k ≡ first + ((tried_of x.now items.now other.now).bodies + count (all_stated last.now.body))) }
 {
     let mut inner = Items::new(alloc);
     let behind = tried(alloc, &mut inner, x, items, other, first)?;

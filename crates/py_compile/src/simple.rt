@@ -52,8 +52,10 @@ pub fn value_or_none(
 
 /// An expression as a statement.
 pub fn alone(e: &mut Emitter, names: &Names, line: u32, x: &Expr) -> Result<(), Fault>
-    ensures done { IfOk result (λ _. (env : List ℕ → List Frame) → Emitted e.old e.new (expression line (value names.now line x.now)) env) }
-    ensures large { result ≡ Err Fault.TooLarge → 65535 < length e.old.code + (expression line (value names.now line x.now)).size }
+    ensures done { IfOk result (λ _. (env : List ℕ → List Frame)
+        → Emitted e.old e.new (expression line (value names.now line x.now)) env) }
+    ensures large { result ≡ Err Fault.TooLarge
+        → 65535 < length e.old.code + (expression line (value names.now line x.now)).size }
 {
     expression(e, names, line, x)?;
     e.put(line, Draft::Op(Instr::Pop))?;
@@ -68,8 +70,10 @@ pub fn assign(
     targets: &[Expr],
     x: &Expr,
 ) -> Result<(), Fault>
-    ensures done { IfOk result (λ _. (env : List ℕ → List Frame) → Emitted e.old e.new (assigned names.now line targets.now x.now) env) }
-    ensures large { result ≡ Err Fault.TooLarge → 65535 < length e.old.code + (assigned names.now line targets.now x.now).size }
+    ensures done { IfOk result (λ _. (env : List ℕ → List Frame)
+        → Emitted e.old e.new (assigned names.now line targets.now x.now) env) }
+    ensures large { result ≡ Err Fault.TooLarge
+        → 65535 < length e.old.code + (assigned names.now line targets.now x.now).size }
 {
     match split(targets) {
         None => Ok(()),
@@ -89,8 +93,12 @@ fn store_in_turn(
     first: &Expr,
     more: &[Expr],
 ) -> Result<(), Fault>
-    ensures done { IfOk result (λ _. Puts line 0 no_frames (Alone (row (stores_before names.now line first.now more.now)) ∷ Alone (stored names.now line (last_target first.now more.now)) ∷ []) e.old e.new) }
-    ensures large { result ≡ Err Fault.TooLarge → 65535 < length e.old.code + (row (stores_before names.now line first.now more.now)).size + (stored names.now line (last_target first.now more.now)).size }
+    ensures done { IfOk result (λ _. Puts line 0 no_frames
+        (Alone (row (stores_before names.now line first.now more.now))
+        ∷ Alone (stored names.now line (last_target first.now more.now)) ∷ []) e.old e.new) }
+    ensures large { result ≡ Err Fault.TooLarge
+        → 65535 < length e.old.code + (row (stores_before names.now line first.now more.now)).size
+        + (stored names.now line (last_target first.now more.now)).size }
 {
     let mut last = first;
     let mut rest = more;
@@ -113,16 +121,20 @@ pub fn change(
     o: Operator,
     y: &Expr,
 ) -> Result<(), Fault>
-    ensures done { IfOk result (λ _. (env : List ℕ → List Frame) → Emitted e.old e.new (add_at line (coded names.now line x.now).place (operator o) (value names.now line y.now)) env) }
-    ensures large { result ≡ Err Fault.TooLarge → 65535 < length e.old.code + (add_at line (coded names.now line x.now).place (operator o) (value names.now line y.now)).size }
+    ensures done { IfOk result (λ _. (env : List ℕ → List Frame) → Emitted e.old e.new
+        (add_at line (coded names.now line x.now).place (operator o) (value names.now line y.now)) env) }
+    ensures large { result ≡ Err Fault.TooLarge → 65535 < length e.old.code
+        + (add_at line (coded names.now line x.now).place (operator o) (value names.now line y.now)).size }
 {
     augment(e, names, line, x, o, y)
 }
 
 /// `del` of these targets, one by one.
 pub fn delete(e: &mut Emitter, names: &Names, line: u32, items: &[&Expr]) -> Result<(), Fault>
-    ensures done { IfOk result (λ _. (env : List ℕ → List Frame) → Emitted e.old e.new (deletion line (all_deleted names.now line (map (λ x. x.now) items.now))) env) }
-    ensures large { result ≡ Err Fault.TooLarge → 65535 < length e.old.code + (deletion line (all_deleted names.now line (map (λ x. x.now) items.now))).size }
+    ensures done { IfOk result (λ _. (env : List ℕ → List Frame)
+        → Emitted e.old e.new (deletion line (all_deleted names.now line (map (λ x. x.now) items.now))) env) }
+    ensures large { result ≡ Err Fault.TooLarge
+        → 65535 < length e.old.code + (deletion line (all_deleted names.now line (map (λ x. x.now) items.now))).size }
 {
     for x in items {
         delete_one(e, names, line, *x)?;
@@ -138,8 +150,10 @@ pub fn print(
     items: &[Expr],
     comma: bool,
 ) -> Result<(), Fault>
-    ensures done { IfOk result (λ _. (env : List ℕ → List Frame) → Emitted e.old e.new (printed names.now line items.now comma) env) }
-    ensures large { result ≡ Err Fault.TooLarge → 65535 < length e.old.code + (printed names.now line items.now comma).size }
+    ensures done { IfOk result (λ _. (env : List ℕ → List Frame)
+        → Emitted e.old e.new (printed names.now line items.now comma) env) }
+    ensures large { result ≡ Err Fault.TooLarge
+        → 65535 < length e.old.code + (printed names.now line items.now comma).size }
 {
     print_items(e, names, line, items)?;
     if comma {
@@ -151,8 +165,10 @@ pub fn print(
 
 /// The items of a `print`.
 fn print_items(e: &mut Emitter, names: &Names, line: u32, items: &[Expr]) -> Result<(), Fault>
-    ensures done { IfOk result (λ _. (env : List ℕ → List Frame) → Emitted e.old e.new (printed names.now line items.now true) env) }
-    ensures large { result ≡ Err Fault.TooLarge → 65535 < length e.old.code + (printed names.now line items.now true).size }
+    ensures done { IfOk result (λ _. (env : List ℕ → List Frame)
+        → Emitted e.old e.new (printed names.now line items.now true) env) }
+    ensures large { result ≡ Err Fault.TooLarge
+        → 65535 < length e.old.code + (printed names.now line items.now true).size }
 {
     let mut rest = items;
     'items: while let Some((x, more)) = split(rest) {
@@ -171,8 +187,10 @@ pub fn raise_made(
     x: &Expr,
     v: &Option<Expr>,
 ) -> Result<(), Fault>
-    ensures done { IfOk result (λ _. (env : List ℕ → List Frame) → Emitted e.old e.new (raise_made names.now line x.now v.now) env) }
-    ensures large { result ≡ Err Fault.TooLarge → 65535 < length e.old.code + (raise_made names.now line x.now v.now).size }
+    ensures done { IfOk result (λ _. (env : List ℕ → List Frame)
+        → Emitted e.old e.new (raise_made names.now line x.now v.now) env) }
+    ensures large { result ≡ Err Fault.TooLarge
+        → 65535 < length e.old.code + (raise_made names.now line x.now v.now).size }
 {
     expression(e, names, line, x)?;
     match v {
@@ -207,8 +225,10 @@ pub fn assert(
     x: &Expr,
     message: &Option<Expr>,
 ) -> Result<(), Fault>
-    ensures done { IfOk result (λ _. (env : List ℕ → List Frame) → Emitted e.old e.new (asserted names.now line x.now message.now) env) }
-    ensures large { result ≡ Err Fault.TooLarge → 65535 < length e.old.code + (asserted names.now line x.now message.now).size }
+    ensures done { IfOk result (λ _. (env : List ℕ → List Frame)
+        → Emitted e.old e.new (asserted names.now line x.now message.now) env) }
+    ensures large { result ≡ Err Fault.TooLarge
+        → 65535 < length e.old.code + (asserted names.now line x.now message.now).size }
 {
     match message {
         None => assert_alone(e, names, line, x),
@@ -218,8 +238,10 @@ pub fn assert(
 
 /// `assert` without a message.
 fn assert_alone(e: &mut Emitter, names: &Names, line: u32, x: &Expr) -> Result<(), Fault>
-    ensures done { IfOk result (λ _. (env : List ℕ → List Frame) → Emitted e.old e.new (assert_alone line (value names.now line x.now)) env) }
-    ensures large { result ≡ Err Fault.TooLarge → 65535 < length e.old.code + (assert_alone line (value names.now line x.now)).size }
+    ensures done { IfOk result (λ _. (env : List ℕ → List Frame)
+        → Emitted e.old e.new (assert_alone line (value names.now line x.now)) env) }
+    ensures large { result ≡ Err Fault.TooLarge
+        → 65535 < length e.old.code + (assert_alone line (value names.now line x.now)).size }
 {
     let base = assert_head(e, names, line, x)?;
     raise_of(e, line, 0)?;
@@ -229,8 +251,10 @@ fn assert_alone(e: &mut Emitter, names: &Names, line: u32, x: &Expr) -> Result<(
 
 /// `assert` with a message.
 fn assert_with(e: &mut Emitter, names: &Names, line: u32, x: &Expr, m: &Expr) -> Result<(), Fault>
-    ensures done { IfOk result (λ _. (env : List ℕ → List Frame) → Emitted e.old e.new (assert_with line (value names.now line x.now) (value names.now line m.now)) env) }
-    ensures large { result ≡ Err Fault.TooLarge → 65535 < length e.old.code + (assert_with line (value names.now line x.now) (value names.now line m.now)).size }
+    ensures done { IfOk result (λ _. (env : List ℕ → List Frame)
+        → Emitted e.old e.new (assert_with line (value names.now line x.now) (value names.now line m.now)) env) }
+    ensures large { result ≡ Err Fault.TooLarge → 65535 < length e.old.code
+        + (assert_with line (value names.now line x.now) (value names.now line m.now)).size }
 {
     let base = assert_head(e, names, line, x)?;
     expression(e, names, line, m)?;
@@ -243,7 +267,10 @@ fn assert_with(e: &mut Emitter, names: &Names, line: u32, x: &Expr, m: &Expr) ->
 /// The test of an `assert` and the class that it raises; the label of its end.
 fn assert_head(e: &mut Emitter, names: &Names, line: u32, x: &Expr) -> Result<usize, Fault>
     ensures base { IfOk result (λ base. base ≡ length e.old.labels) }
-    ensures done { IfOk result (λ base. (env : List ℕ → List Frame) → Puts line base (λ ls. frame_there base 1 0 ls ∷ env ls) (Alone (value names.now line x.now) ∷ Op Not ∷ To 0 JumpFalse 0 ∷ Op (Const (Root 13)) ∷ []) (opened e.old 1 0) e.new) }
+    ensures done { IfOk result (λ base. (env : List ℕ → List Frame)
+        → Puts line base (λ ls. frame_there base 1 0 ls ∷ env ls)
+        (Alone (value names.now line x.now) ∷ Op Not ∷ To 0 JumpFalse 0 ∷ Op (Const (Root 13)) ∷ [])
+        (opened e.old 1 0) e.new) }
     ensures longer { IfOk result (λ _. length e.new.code ≡ length e.old.code + (value names.now line x.now).size + 3) }
     ensures large { result ≡ Err Fault.TooLarge → 65535 < length e.old.code + (value names.now line x.now).size + 3 }
 {
@@ -300,8 +327,10 @@ pub fn bound_name(x: &Imported) -> &[u8]
 
 /// `import`.
 pub fn import(e: &mut Emitter, names: &Names, line: u32, items: &[Imported]) -> Result<(), Fault>
-    ensures done { IfOk result (λ _. (env : List ℕ → List Frame) → Emitted e.old e.new (row (imported names.now line items.now)) env) }
-    ensures large { result ≡ Err Fault.TooLarge → 65535 < length e.old.code + (row (imported names.now line items.now)).size }
+    ensures done { IfOk result (λ _. (env : List ℕ → List Frame)
+        → Emitted e.old e.new (row (imported names.now line items.now)) env) }
+    ensures large { result ≡ Err Fault.TooLarge
+        → 65535 < length e.old.code + (row (imported names.now line items.now)).size }
 {
     let mut rest = items;
     'items: while let Some((x, more)) = split(rest) {
@@ -315,8 +344,10 @@ pub fn import(e: &mut Emitter, names: &Names, line: u32, items: &[Imported]) -> 
 
 /// `from`.
 pub fn take_from(e: &mut Emitter, names: &Names, line: u32, items: &[Imported]) -> Result<(), Fault>
-    ensures done { IfOk result (λ _. (env : List ℕ → List Frame) → Emitted e.old e.new (row (taken_from names.now line items.now)) env) }
-    ensures large { result ≡ Err Fault.TooLarge → 65535 < length e.old.code + (row (taken_from names.now line items.now)).size }
+    ensures done { IfOk result (λ _. (env : List ℕ → List Frame)
+        → Emitted e.old e.new (row (taken_from names.now line items.now)) env) }
+    ensures large { result ≡ Err Fault.TooLarge
+        → 65535 < length e.old.code + (row (taken_from names.now line items.now)).size }
 {
     let mut rest = items;
     'items: while let Some((x, more)) = split(rest) {
@@ -330,9 +361,11 @@ pub fn take_from(e: &mut Emitter, names: &Names, line: u32, items: &[Imported]) 
 
 /// The defaults of parameters, and how many there are.
 fn defaults(e: &mut Emitter, names: &Names, line: u32, params: &[Param]) -> Result<usize, Fault>
-    ensures done { IfOk result (λ _. Emitted e.old e.new (row (values names.now line (defaults params.now))) no_frames) }
+    ensures done { IfOk result
+        (λ _. Emitted e.old e.new (row (values names.now line (defaults params.now))) no_frames) }
     ensures count { IfOk result (λ k. k ≡ length (values names.now line (defaults params.now))) }
-    ensures large { result ≡ Err Fault.TooLarge → 65535 < length e.old.code + (row (values names.now line (defaults params.now))).size }
+    ensures large { result ≡ Err Fault.TooLarge
+        → 65535 < length e.old.code + (row (values names.now line (defaults params.now))).size }
 {
     let mut count = 0;
     let mut rest = params;
@@ -355,8 +388,10 @@ pub fn def(
     params: &[Param],
     number: u32,
 ) -> Result<(), Fault>
-    ensures done { IfOk result (λ _. (env : List ℕ → List Frame) → Emitted e.old e.new (def line (values names.now line (defaults params.now)) number (home names.now name.now)) env) }
-    ensures large { result ≡ Err Fault.TooLarge → 65535 < length e.old.code + (def line (values names.now line (defaults params.now)) number (home names.now name.now)).size }
+    ensures done { IfOk result (λ _. (env : List ℕ → List Frame) → Emitted e.old e.new
+        (def line (values names.now line (defaults params.now)) number (home names.now name.now)) env) }
+    ensures large { result ≡ Err Fault.TooLarge → 65535 < length e.old.code
+        + (def line (values names.now line (defaults params.now)) number (home names.now name.now)).size }
 {
     let count = defaults(e, names, line, params)?;
     let n = to_u32(count)?;
@@ -388,8 +423,10 @@ pub fn class(
     x: &Option<Expr>,
     number: u32,
 ) -> Result<(), Fault>
-    ensures done { IfOk result (λ _. (env : List ℕ → List Frame) → Emitted e.old e.new (class line (base names.now line x.now) number (home names.now name.now)) env) }
-    ensures large { result ≡ Err Fault.TooLarge → 65535 < length e.old.code + (class line (base names.now line x.now) number (home names.now name.now)).size }
+    ensures done { IfOk result (λ _. (env : List ℕ → List Frame)
+        → Emitted e.old e.new (class line (base names.now line x.now) number (home names.now name.now)) env) }
+    ensures large { result ≡ Err Fault.TooLarge
+        → 65535 < length e.old.code + (class line (base names.now line x.now) number (home names.now name.now)).size }
 {
     base(e, names, line, x)?;
     e.put(line, Draft::Op(Instr::ClassBody(number)))?;

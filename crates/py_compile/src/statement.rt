@@ -31,8 +31,10 @@ use sqlite_items::Items;
 
 /// The exception of the innermost clause again. No resolved tree has a raise alone outside of one.
 fn raise_again(e: &mut Emitter, line: u32, around: &Around) -> Result<(), Fault>
-    ensures done { IfOk result (λ _. (n : Known) → Emitted e.old e.new (raise_again line (around_of n around.now)) (env_of around.now)) }
-    ensures large { result ≡ Err Fault.TooLarge → (n : Known) → 65535 < length e.old.code + (raise_again line (around_of n around.now)).size }
+    ensures done { IfOk result (λ _. (n : Known)
+        → Emitted e.old e.new (raise_again line (around_of n around.now)) (env_of around.now)) }
+    ensures large { result ≡ Err Fault.TooLarge → (n : Known)
+        → 65535 < length e.old.code + (raise_again line (around_of n around.now)).size }
 {
     match around {
         Around::Body => Ok(()),
@@ -53,8 +55,10 @@ fn raise(
     v: &Option<Expr>,
     around: &Around,
 ) -> Result<(), Fault>
-    ensures done { IfOk result (λ _. Emitted e.old e.new (raised names.now line (around_of names.now around.now) x.now v.now) (env_of around.now)) }
-    ensures large { result ≡ Err Fault.TooLarge → 65535 < length e.old.code + (raised names.now line (around_of names.now around.now) x.now v.now).size }
+    ensures done { IfOk result (λ _. Emitted e.old e.new
+        (raised names.now line (around_of names.now around.now) x.now v.now) (env_of around.now)) }
+    ensures large { result ≡ Err Fault.TooLarge
+        → 65535 < length e.old.code + (raised names.now line (around_of names.now around.now) x.now v.now).size }
 {
     match x {
         None => raise_again(e, line, around),
@@ -97,8 +101,10 @@ fn pop(e: &mut Emitter, line: u32) -> Result<(), Fault>
 /// loop.
 #[cycle(statements)]
 fn leave(e: &mut Emitter, names: &Names, line: u32, way: Way, around: &Around) -> Result<(), Fault>
-    ensures done { IfOk result (λ _. Emitted e.old e.new (way_out line way (around_of names.now around.now)) (env_of around.now)) }
-    ensures large { result ≡ Err Fault.TooLarge → 65535 < length e.old.code + (way_out line way (around_of names.now around.now)).size }
+    ensures done { IfOk result
+        (λ _. Emitted e.old e.new (way_out line way (around_of names.now around.now)) (env_of around.now)) }
+    ensures large { result ≡ Err Fault.TooLarge
+        → 65535 < length e.old.code + (way_out line way (around_of names.now around.now)).size }
 {
     match around {
         Around::Body => Ok(()),
@@ -145,8 +151,10 @@ pub fn block<'a>(
     items: &[Plan<'a>],
     around: &Around<'_, 'a>,
 ) -> Result<(), Fault>
-    ensures done { IfOk result (λ _. Emitted e.old e.new (planned_block items.now names.now (around_of names.now around.now)) (env_of around.now)) }
-    ensures large { result ≡ Err Fault.TooLarge → 65535 < length e.old.code + (planned_block items.now names.now (around_of names.now around.now)).size }
+    ensures done { IfOk result (λ _. Emitted e.old e.new
+        (planned_block items.now names.now (around_of names.now around.now)) (env_of around.now)) }
+    ensures large { result ≡ Err Fault.TooLarge
+        → 65535 < length e.old.code + (planned_block items.now names.now (around_of names.now around.now)).size }
 {
     for x in items {
         statement(e, names, x, around)?;
@@ -163,8 +171,10 @@ fn if_else<'a>(
     other: &[Plan<'a>],
     around: &Around<'_, 'a>,
 ) -> Result<(), Fault>
-    ensures done { IfOk result (λ _. Emitted e.old e.new (if_plan names.now (around_of names.now around.now) items.now other.now) (env_of around.now)) }
-    ensures large { result ≡ Err Fault.TooLarge → 65535 < length e.old.code + (if_plan names.now (around_of names.now around.now) items.now other.now).size }
+    ensures done { IfOk result (λ _. Emitted e.old e.new
+        (if_plan names.now (around_of names.now around.now) items.now other.now) (env_of around.now)) }
+    ensures large { result ≡ Err Fault.TooLarge
+        → 65535 < length e.old.code + (if_plan names.now (around_of names.now around.now) items.now other.now).size }
 {
     let (end, _) = e.begin(1, 0)?;
     arms(e, names, items, end, around)?;
@@ -182,8 +192,11 @@ fn arms<'a>(
     end: usize,
     around: &Around<'_, 'a>,
 ) -> Result<(), Fault>
-    ensures done { IfOk result (λ _. Emitted e.old e.new (row (planned_arms items.now names.now (around_of names.now around.now))) (λ ls. frame_there end 1 0 ls ∷ env_of around.now ls)) }
-    ensures large { result ≡ Err Fault.TooLarge → 65535 < length e.old.code + (row (planned_arms items.now names.now (around_of names.now around.now))).size }
+    ensures done { IfOk result (λ _. Emitted e.old e.new
+        (row (planned_arms items.now names.now (around_of names.now around.now)))
+        (λ ls. frame_there end 1 0 ls ∷ env_of around.now ls)) }
+    ensures large { result ≡ Err Fault.TooLarge
+        → 65535 < length e.old.code + (row (planned_arms items.now names.now (around_of names.now around.now))).size }
 {
     for x in items {
         let next = arm_head(e, names, x.arm)?;
@@ -203,8 +216,10 @@ fn while_loop<'a>(
     other: &[Plan<'a>],
     around: &Around<'_, 'a>,
 ) -> Result<(), Fault>
-    ensures done { IfOk result (λ _. Emitted e.old e.new (while_plan names.now (around_of names.now around.now) arm.now body.now other.now) (env_of around.now)) }
-    ensures large { result ≡ Err Fault.TooLarge → 65535 < length e.old.code + (while_plan names.now (around_of names.now around.now) arm.now body.now other.now).size }
+    ensures done { IfOk result (λ _. Emitted e.old e.new
+        (while_plan names.now (around_of names.now around.now) arm.now body.now other.now) (env_of around.now)) }
+    ensures large { result ≡ Err Fault.TooLarge → 65535 < length e.old.code
+        + (while_plan names.now (around_of names.now around.now) arm.now body.now other.now).size }
 {
     let base = while_head(e, names, arm)?;
     block(e, names, body, &Around::While(base, &*around))?;
@@ -226,8 +241,11 @@ fn for_loop<'a>(
     other: &[Plan<'a>],
     around: &Around<'_, 'a>,
 ) -> Result<(), Fault>
-    ensures done { IfOk result (λ _. Emitted e.old e.new (for_plan names.now (around_of names.now around.now) line target.now x.now body.now other.now) (env_of around.now)) }
-    ensures large { result ≡ Err Fault.TooLarge → 65535 < length e.old.code + (for_plan names.now (around_of names.now around.now) line target.now x.now body.now other.now).size }
+    ensures done { IfOk result (λ _. Emitted e.old e.new
+        (for_plan names.now (around_of names.now around.now) line target.now x.now body.now other.now)
+        (env_of around.now)) }
+    ensures large { result ≡ Err Fault.TooLarge → 65535 < length e.old.code
+        + (for_plan names.now (around_of names.now around.now) line target.now x.now body.now other.now).size }
 {
     let base = for_head(e, names, line, target, x)?;
     block(e, names, body, &Around::For(base, &*around))?;
@@ -247,8 +265,11 @@ fn handlers<'a>(
     slot: u32,
     outer: &Around<'_, 'a>,
 ) -> Result<(), Fault>
-    ensures done { IfOk result (λ _. Emitted e.old e.new (row (planned_handlers items.now names.now (around_of names.now outer.now))) (λ ls. frame_there base 2 slot ls ∷ env_of outer.now ls)) }
-    ensures large { result ≡ Err Fault.TooLarge → 65535 < length e.old.code + (row (planned_handlers items.now names.now (around_of names.now outer.now))).size }
+    ensures done { IfOk result (λ _. Emitted e.old e.new
+        (row (planned_handlers items.now names.now (around_of names.now outer.now)))
+        (λ ls. frame_there base 2 slot ls ∷ env_of outer.now ls)) }
+    ensures large { result ≡ Err Fault.TooLarge → 65535 < length e.old.code
+        + (row (planned_handlers items.now names.now (around_of names.now outer.now))).size }
 {
     for x in items {
         let next = handler_head(e, names, x.handler, slot)?;
@@ -270,8 +291,10 @@ fn tried<'a>(
     other: &[Plan<'a>],
     around: &Around<'_, 'a>,
 ) -> Result<(), Fault>
-    ensures done { IfOk result (λ _. Emitted e.old e.new (try_plan names.now (around_of names.now around.now) line body.now items.now other.now) (env_of around.now)) }
-    ensures large { result ≡ Err Fault.TooLarge → 65535 < length e.old.code + (try_plan names.now (around_of names.now around.now) line body.now items.now other.now).size }
+    ensures done { IfOk result (λ _. Emitted e.old e.new
+        (try_plan names.now (around_of names.now around.now) line body.now items.now other.now) (env_of around.now)) }
+    ensures large { result ≡ Err Fault.TooLarge → 65535 < length e.old.code
+        + (try_plan names.now (around_of names.now around.now) line body.now items.now other.now).size }
 {
     let (base, slot) = try_head(e, line)?;
     block(e, names, body, &Around::Try(base, slot, &*around))?;
@@ -294,8 +317,10 @@ fn tried_finally<'a>(
     last: &Items<Plan<'a>>,
     around: &Around<'_, 'a>,
 ) -> Result<(), Fault>
-    ensures done { IfOk result (λ _. Emitted e.old e.new (finally_plan names.now (around_of names.now around.now) line inner.now last.now) (env_of around.now)) }
-    ensures large { result ≡ Err Fault.TooLarge → 65535 < length e.old.code + (finally_plan names.now (around_of names.now around.now) line inner.now last.now).size }
+    ensures done { IfOk result (λ _. Emitted e.old e.new
+        (finally_plan names.now (around_of names.now around.now) line inner.now last.now) (env_of around.now)) }
+    ensures large { result ≡ Err Fault.TooLarge → 65535 < length e.old.code
+        + (finally_plan names.now (around_of names.now around.now) line inner.now last.now).size }
 {
     let (base, slot) = try_head(e, line)?;
     block(
@@ -322,8 +347,10 @@ fn returned(
     x: &Option<Expr>,
     around: &Around,
 ) -> Result<(), Fault>
-    ensures done { IfOk result (λ _. Emitted e.old e.new (return line (value_some names.now line x.now) (around_of names.now around.now)) (env_of around.now)) }
-    ensures large { result ≡ Err Fault.TooLarge → 65535 < length e.old.code + (return line (value_some names.now line x.now) (around_of names.now around.now)).size }
+    ensures done { IfOk result (λ _. Emitted e.old e.new
+        (return line (value_some names.now line x.now) (around_of names.now around.now)) (env_of around.now)) }
+    ensures large { result ≡ Err Fault.TooLarge → 65535 < length e.old.code
+        + (return line (value_some names.now line x.now) (around_of names.now around.now)).size }
 {
     let slot = return_head(e, names, line, x)?;
     leave(e, names, line, Way::Out, around)?;
@@ -334,8 +361,10 @@ fn returned(
 /// A statement without blocks, but for `del`.
 #[cycle(statements)]
 fn simple(e: &mut Emitter, names: &Names, s: Simple, around: &Around) -> Result<(), Fault>
-    ensures done { IfOk result (λ _. Emitted e.old e.new ((stated (simple_stmt s.entry)).code names.now (around_of names.now around.now) 0) (env_of around.now)) }
-    ensures large { result ≡ Err Fault.TooLarge → 65535 < length e.old.code + ((stated (simple_stmt s.entry)).code names.now (around_of names.now around.now) 0).size }
+    ensures done { IfOk result (λ _. Emitted e.old e.new
+        ((stated (simple_stmt s.entry)).code names.now (around_of names.now around.now) 0) (env_of around.now)) }
+    ensures large { result ≡ Err Fault.TooLarge → 65535 < length e.old.code
+        + ((stated (simple_stmt s.entry)).code names.now (around_of names.now around.now) 0).size }
 {
     match s {
         Simple::Do(line, x) => alone(e, names, line, x),
@@ -360,8 +389,10 @@ fn statement<'a>(
     p: &Plan<'a>,
     around: &Around<'_, 'a>,
 ) -> Result<(), Fault>
-    ensures done { IfOk result (λ _. Emitted e.old e.new (planned p.now names.now (around_of names.now around.now)) (env_of around.now)) }
-    ensures large { result ≡ Err Fault.TooLarge → 65535 < length e.old.code + (planned p.now names.now (around_of names.now around.now)).size }
+    ensures done { IfOk result
+        (λ _. Emitted e.old e.new (planned p.now names.now (around_of names.now around.now)) (env_of around.now)) }
+    ensures large { result ≡ Err Fault.TooLarge
+        → 65535 < length e.old.code + (planned p.now names.now (around_of names.now around.now)).size }
 {
     match p {
         Plan::Simple(s) => simple(e, names, *s, around),

@@ -51,8 +51,10 @@ pub fn augment(
     o: Operator,
     y: &Expr,
 ) -> Result<(), Fault>
-    ensures done { IfOk result (λ _. Emitted e.old e.new (add_at line (coded names.now line x.now).place (operator o) (value names.now line y.now)) no_frames) }
-    ensures large { result ≡ Err Fault.TooLarge → 65535 < length e.old.code + (add_at line (coded names.now line x.now).place (operator o) (value names.now line y.now)).size }
+    ensures done { IfOk result (λ _. Emitted e.old e.new
+        (add_at line (coded names.now line x.now).place (operator o) (value names.now line y.now)) no_frames) }
+    ensures large { result ≡ Err Fault.TooLarge → 65535 < length e.old.code
+        + (add_at line (coded names.now line x.now).place (operator o) (value names.now line y.now)).size }
 {
     run(e, names, line, Task::Augment(x, o, y))
 }
@@ -264,7 +266,8 @@ fn add_to_attribute<'a>(
     o: u8,
     y: &'a Expr,
 ) -> Result<(), Fault>
-    ensures done { IfOk result (λ _. tasks.new ≡ Value a.now ∷ Behind front.now ∷ Op Dup ∷ Op (LoadAttr root) ∷ Value y.now ∷ Op (InPlace o) ∷ Op Rot2 ∷ Op (StoreAttr root) ∷ tasks.old) }
+    ensures done { IfOk result (λ _. tasks.new ≡ Value a.now ∷ Behind front.now ∷ Op Dup ∷ Op (LoadAttr root)
+        ∷ Value y.now ∷ Op (InPlace o) ∷ Op Rot2 ∷ Op (StoreAttr root) ∷ tasks.old) }
     ensures small { result ≡ Err Fault.TooLarge → ⊥ }
 {
     tasks.push_four(
@@ -290,7 +293,8 @@ fn add_to_item<'a>(
     o: u8,
     y: &'a Expr,
 ) -> Result<(), Fault>
-    ensures done { IfOk result (λ _. tasks.new ≡ Value a.now ∷ Behind front.now ∷ Value i.now ∷ Op Dup2 ∷ Op LoadItem ∷ Value y.now ∷ Op (InPlace o) ∷ Op Rot3 ∷ Op StoreItem ∷ tasks.old) }
+    ensures done { IfOk result (λ _. tasks.new ≡ Value a.now ∷ Behind front.now ∷ Value i.now ∷ Op Dup2 ∷ Op LoadItem
+        ∷ Value y.now ∷ Op (InPlace o) ∷ Op Rot3 ∷ Op StoreItem ∷ tasks.old) }
     ensures small { result ≡ Err Fault.TooLarge → ⊥ }
 {
     tasks.push_four(

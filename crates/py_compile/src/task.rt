@@ -66,7 +66,14 @@ impl<'a> Model for Tasks<'a> {
 
     ghost Value = { List Todo };
 
-    ghost coded = { Prim.hlevel (codes, expr.the_row.coded, link.the_row.coded, named.the_row.coded, pair.the_row.coded, trailer.the_row.coded) };
+    ghost coded = { Prim.hlevel (
+      codes,
+      expr.the_row.coded,
+      link.the_row.coded,
+      named.the_row.coded,
+      pair.the_row.coded,
+      trailer.the_row.coded,
+    ) };
 
     ghost view = { λ t. map plain (reverse t.items.items) };
 }
@@ -108,7 +115,8 @@ impl<'a> Tasks<'a> {
         second: Task<'a>,
         third: Task<'a>,
     ) -> Result<(), Fault>
-        ensures done { IfOk result (λ _. self.new ≡ plain first.entry ∷ plain second.entry ∷ plain third.entry ∷ self.old) }
+        ensures done { IfOk result (λ _. self.new ≡ plain first.entry ∷ plain second.entry ∷ plain third.entry
+            ∷ self.old) }
         ensures small { result ≡ Err Fault.TooLarge → ⊥ }
     {
         self.push_two(second, third)?;
@@ -123,7 +131,8 @@ impl<'a> Tasks<'a> {
         third: Task<'a>,
         fourth: Task<'a>,
     ) -> Result<(), Fault>
-        ensures done { IfOk result (λ _. self.new ≡ plain first.entry ∷ plain second.entry ∷ plain third.entry ∷ plain fourth.entry ∷ self.old) }
+        ensures done { IfOk result (λ _. self.new ≡ plain first.entry ∷ plain second.entry ∷ plain third.entry
+            ∷ plain fourth.entry ∷ self.old) }
         ensures small { result ≡ Err Fault.TooLarge → ⊥ }
     {
         self.push_two(third, fourth)?;

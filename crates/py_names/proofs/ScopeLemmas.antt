@@ -2,6 +2,7 @@
 use Rattle.std.proofs.Common.{◌≡◌, ℕ, Bool, true, false, cond, not, ◌&&◌, ◌||◌, List, [], ◌∷◌, ◌++◌, filter, Option, Some, None, refl, sym, ap, ◌∙◌}
 use Rattle.std.specs.List.{list_any, AllByRecursion, IsDistinct}
 use Rattle.std.specs.Str.{bytes_eq}
+use Rattle.std.proofs.lemmas.Bool.{or_right}
 use Rattle.std.proofs.lemmas.Cmp.{nat_list_eq_equiv}
 use Rattle.std.proofs.lemmas.Map.Keys.{IsDistinct-push}
 use Rattle.std.proofs.lemmas.List.Folds.{list_any-append}
@@ -24,10 +25,6 @@ or-true false = refl
 pub or-assoc : (a b d : Bool) → ((a || b) || d) ≡ (a || (b || d))
 or-assoc true b d = refl
 or-assoc false b d = refl
-
-or-right : (a b : Bool) → b ≡ true → (a || b) ≡ true
-or-right true b e = refl
-or-right false b e = e
 
 turned : (a b : Bool) → (not a && b) ≡ (b && not a)
 turned true true = refl
@@ -93,9 +90,9 @@ module _ (n : List ℕ) where
   mentions-bound (Enter k ∷ es) e = mentions-bound es e
   mentions-bound (Leave ∷ es) e = mentions-bound es e
   mentions-bound (Takes m ∷ es) e = same_front (bytes_eq n m) (binds es n) (mentions es n) (mentions-bound es) e
-  mentions-bound (Uses l m ∷ es) e = or-right (bytes_eq n m) (mentions es n) (mentions-bound es e)
+  mentions-bound (Uses l m ∷ es) e = or_right (bytes_eq n m) (mentions es n) (mentions-bound es e)
   mentions-bound (Binds l m ∷ es) e = same_front (bytes_eq n m) (binds es n) (mentions es n) (mentions-bound es) e
-  mentions-bound (Declares l m ∷ es) e = or-right (bytes_eq n m) (mentions es n) (mentions-bound es e)
+  mentions-bound (Declares l m ∷ es) e = or_right (bytes_eq n m) (mentions es n) (mentions-bound es e)
   mentions-bound (Misplaced l ∷ es) e = mentions-bound es e
   mentions-bound (Doubled l ∷ es) e = mentions-bound es e
 

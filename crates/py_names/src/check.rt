@@ -53,7 +53,8 @@ fn is_function(tables: &[Table], body: usize) -> bool
 
 /// Whether a name is local to one of these bodies that is a function's.
 fn any_function(tables: &[Table], outer: &[usize], name: &[u8]) -> bool
-    ensures { result ≡ list_any (λ j. is_function (at tables.now j).kind && is_local (at tables.now j) name.now) outer.now }
+    ensures { result ≡ list_any
+        (λ j. is_function (at tables.now j).kind && is_local (at tables.now j) name.now) outer.now }
 {
     for body in outer {
         if is_function(tables, *body) && is_local(tables, *body, name) {

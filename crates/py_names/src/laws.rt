@@ -13,7 +13,8 @@ ghost use Rattle.py_names.specs.ScopeLaws.{mentions, is_own};
 /// either list.
 pub fn scope_law()
     ensures local { (es : List Event) (n : List ℕ) → has n (scope_of (names_from no_names es)).locals ≡ is_own es n }
-    ensures others { (es : List Event) (n : List ℕ) → has n (scope_of (names_from no_names es)).globals ≡ (mentions es n && not (is_own es n)) }
+    ensures others { (es : List Event) (n : List ℕ)
+        → has n (scope_of (names_from no_names es)).globals ≡ (mentions es n && not (is_own es n)) }
     ensures locals_once { (es : List Event) → IsDistinct bytes_eq (scope_of (names_from no_names es)).locals }
     ensures others_once { (es : List Event) → IsDistinct bytes_eq (scope_of (names_from no_names es)).globals }
 {}

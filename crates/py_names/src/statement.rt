@@ -1,8 +1,8 @@
 //! What statements say about names.
 ghost use Rattle.std.specs.Prelude.{◌≡◌, ◌++◌, ◌∷◌, [], map, OnOk};
 ghost use Rattle.py_names.specs.declared.event.BodyKind.TheVariants as kind;
-ghost use Rattle.py_names.specs.declared.event.Event.TheVariants.{Enter};
-ghost use Rattle.py_names.specs.Outline.{bound_name, declared, imported, imported_name, inside_clause, inside_finally, inside_loop, parameters, raises, read_some, says, says_block, says_arm, says_arms, says_clause, says_handler, says_handlers, takes};
+ghost use Rattle.py_names.specs.declared.event.Event.TheVariants.{Enter, Leave};
+ghost use Rattle.py_names.specs.Outline.{bound_name, declared, imported, imported_name, inside_clause, inside_finally, inside_function, inside_loop, only_where, outside, parameters, raises, read, read_some, says, says_block, says_arm, says_arms, says_clause, says_handler, says_handlers, takes, target, target_all};
 ghost use Rattle.py_names.specs.inner.Roles.{told_some};
 
 use crate::event::{BodyKind, Event};
@@ -78,6 +78,42 @@ impl Where {
             ..self
         }
     }
+}
+
+/// Adds what an assignment says.
+fn assign(out: &mut Outline, line: u32, targets: &[Expr], a: &Expr) -> Result<(), NoMemory>
+    ensures { OnOk result (out.new ≡ out.old ++ (target_all line targets.now ++ read line a.now)) }
+{
+    expressions(out, line, Role::Target, targets)?;
+    expression(out, line, Role::Read, a)?;
+    Ok(())
+}
+
+/// Adds what an augmented assignment says.
+fn augment(out: &mut Outline, line: u32, x: &Expr, a: &Expr) -> Result<(), NoMemory>
+    ensures { OnOk result (out.new ≡ out.old ++ (target line x.now ++ read line a.now)) }
+{
+    expression(out, line, Role::Target, x)?;
+    expression(out, line, Role::Read, a)?;
+    Ok(())
+}
+
+/// Adds what a `return` says.
+fn answer(out: &mut Outline, line: u32, place: Where, a: &Option<Expr>) -> Result<(), NoMemory>
+    ensures { OnOk result (out.new ≡ out.old ++ (only_where place.function line ++ read_some line a.now)) }
+{
+    out.only_where(place.function, line)?;
+    some(out, line, Role::Read, a)?;
+    Ok(())
+}
+
+/// Adds what an `assert` says.
+fn demand(out: &mut Outline, line: u32, a: &Expr, message: &Option<Expr>) -> Result<(), NoMemory>
+    ensures { OnOk result (out.new ≡ out.old ++ (read line a.now ++ read_some line message.now)) }
+{
+    expression(out, line, Role::Read, a)?;
+    some(out, line, Role::Read, message)?;
+    Ok(())
 }
 
 /// Adds what a `raise` says.
@@ -165,7 +201,8 @@ fn takes_of(out: &mut Outline, items: &[Param]) -> Result<(), NoMemory>
 
 /// Adds what a `def` says before the statements of its body.
 fn def_head(out: &mut Outline, line: u32, name: &Bytes, items: &[Param]) -> Result<(), NoMemory>
-    ensures { OnOk result (out.new ≡ out.old ++ (bound_name line name.now ++ parameters line [] items.now ++ Enter kind.Function ∷ takes items.now)) }
+    ensures { OnOk result (out.new ≡ out.old ++ (bound_name line name.now ++ parameters line [] items.now
+        ++ Enter kind.Function ∷ takes items.now)) }
 {
     out.bound_name(line, name)?;
     parameters_of(out, line, items)?;
@@ -181,7 +218,8 @@ fn class_head(
     name: &Bytes,
     base: &Option<Expr>,
 ) -> Result<(), NoMemory>
-    ensures { OnOk result (out.new ≡ out.old ++ (bound_name line name.now ++ read_some line base.now ++ Enter kind.Class ∷ [])) }
+    ensures { OnOk result
+        (out.new ≡ out.old ++ (bound_name line name.now ++ read_some line base.now ++ Enter kind.Class ∷ [])) }
 {
     out.bound_name(line, name)?;
     some(out, line, Role::Read, base)?;
@@ -197,72 +235,141 @@ fn statement(out: &mut Outline, place: Where, x: &Stmt) -> Result<(), NoMemory>
 {
     match x {
         Stmt::Do(line, a) => expression(out, *line, Role::Read, a),
-        Stmt::Assign(line, targets, a) => {
-            expressions(out, *line, Role::Target, targets.as_slice())?;
-            expression(out, *line, Role::Read, a)?;
-            Ok(())
-        }
-        Stmt::Augment(line, target, _, a) => {
-            expression(out, *line, Role::Target, target)?;
-            expression(out, *line, Role::Read, a)?;
-            Ok(())
-        }
+        Stmt::Assign(line, targets, a) => assign(out, *line, targets.as_slice(), a),
+        Stmt::Augment(line, target, _, a) => augment(out, *line, target, a),
         Stmt::Print(line, items, _) => expressions(out, *line, Role::Read, items.as_slice()),
         Stmt::Pass(_) => Ok(()),
         Stmt::Break(line) => out.only_where(place.in_loop, *line),
         Stmt::Continue(line) => out.only_where(place.in_loop && !place.in_finally, *line),
-        Stmt::Return(line, a) => {
-            out.only_where(place.function, *line)?;
-            some(out, *line, Role::Read, a)?;
-            Ok(())
-        }
+        Stmt::Return(line, a) => answer(out, *line, place, a),
         Stmt::Raise(line, a, value) => raise(out, *line, place, a, value),
         Stmt::Del(line, targets) => expressions(out, *line, Role::Target, targets.as_slice()),
         Stmt::Global(line, names) => declares(out, *line, names.as_slice()),
-        Stmt::Assert(line, a, message) => {
-            expression(out, *line, Role::Read, a)?;
-            some(out, *line, Role::Read, message)?;
-            Ok(())
-        }
+        Stmt::Assert(line, a, message) => demand(out, *line, a, message),
         Stmt::Import(line, items) => imports(out, *line, items.as_slice()),
         Stmt::From(line, _, items) => imports(out, *line, items.as_slice()),
-        Stmt::If(items, otherwise) => {
-            arms(out, place, items.as_slice())?;
-            clause(out, place, otherwise)?;
-            Ok(())
-        }
-        Stmt::While(x, otherwise) => {
-            arm(out, place.inside_loop(), x)?;
-            clause(out, place, otherwise)?;
-            Ok(())
-        }
+        Stmt::If(items, otherwise) => branches(out, place, items.as_slice(), otherwise),
+        Stmt::While(x, otherwise) => while_loop(out, place, x, otherwise),
         Stmt::For(line, target, a, body, otherwise) => {
-            expression(out, *line, Role::Target, target)?;
-            expression(out, *line, Role::Read, a)?;
-            block(out, place.inside_loop(), body.as_slice())?;
-            clause(out, place, otherwise)?;
-            Ok(())
+            for_loop(out, *line, place, target, a, body.as_slice(), otherwise)
         }
         Stmt::Try(x, items, otherwise, last) => {
-            block(out, place, x.body.as_slice())?;
-            handlers(out, place.inside_clause(), items.as_slice())?;
-            clause(out, place, otherwise)?;
-            clause(out, place.inside_finally(), last)?;
-            Ok(())
+            guarded(out, place, x, items.as_slice(), otherwise, last)
         }
         Stmt::Def(line, name, items, body) => {
-            def_head(out, *line, name, items.as_slice())?;
-            block(out, Where::FUNCTION, body.as_slice())?;
-            out.push(Event::Leave)?;
-            Ok(())
+            function(out, *line, name, items.as_slice(), body.as_slice())
         }
-        Stmt::Class(line, name, base, body) => {
-            class_head(out, *line, name, base)?;
-            block(out, Where::OUTSIDE, body.as_slice())?;
-            out.push(Event::Leave)?;
-            Ok(())
-        }
+        Stmt::Class(line, name, base, body) => class(out, *line, name, base, body.as_slice()),
     }
+}
+
+/// Adds what an `if` says.
+#[cycle(statements)]
+fn branches(
+    out: &mut Outline,
+    place: Where,
+    items: &[Arm],
+    otherwise: &Option<Clause>,
+) -> Result<(), NoMemory>
+    ensures { OnOk result (out.new ≡ out.old ++ (says_arms items.now place ++ says_clause otherwise.now place)) }
+{
+    arms(out, place, items)?;
+    clause(out, place, otherwise)?;
+    Ok(())
+}
+
+/// Adds what a `while` says.
+#[cycle(statements)]
+fn while_loop(
+    out: &mut Outline,
+    place: Where,
+    x: &Arm,
+    otherwise: &Option<Clause>,
+) -> Result<(), NoMemory>
+    ensures { OnOk result
+        (out.new ≡ out.old ++ (says_arm x.now (inside_loop place) ++ says_clause otherwise.now place)) }
+{
+    arm(out, place.inside_loop(), x)?;
+    clause(out, place, otherwise)?;
+    Ok(())
+}
+
+/// Adds what a `for` says.
+#[cycle(statements)]
+fn for_loop(
+    out: &mut Outline,
+    line: u32,
+    place: Where,
+    each: &Expr,
+    a: &Expr,
+    body: &[Stmt],
+    otherwise: &Option<Clause>,
+) -> Result<(), NoMemory>
+    ensures { OnOk result (out.new ≡ out.old ++ (target line each.now ++ read line a.now
+        ++ says_block body.now (inside_loop place) ++ says_clause otherwise.now place)) }
+{
+    expression(out, line, Role::Target, each)?;
+    expression(out, line, Role::Read, a)?;
+    block(out, place.inside_loop(), body)?;
+    clause(out, place, otherwise)?;
+    Ok(())
+}
+
+/// Adds what a `try` says.
+#[cycle(statements)]
+fn guarded(
+    out: &mut Outline,
+    place: Where,
+    x: &Clause,
+    items: &[Handler],
+    otherwise: &Option<Clause>,
+    last: &Option<Clause>,
+) -> Result<(), NoMemory>
+    ensures { OnOk result (out.new ≡ out.old ++ (says_block x.now.body place
+        ++ says_handlers items.now (inside_clause place) ++ says_clause otherwise.now place
+        ++ says_clause last.now (inside_finally place))) }
+{
+    block(out, place, x.body.as_slice())?;
+    handlers(out, place.inside_clause(), items)?;
+    clause(out, place, otherwise)?;
+    clause(out, place.inside_finally(), last)?;
+    Ok(())
+}
+
+/// Adds what a `def` says.
+#[cycle(statements)]
+fn function(
+    out: &mut Outline,
+    line: u32,
+    name: &Bytes,
+    items: &[Param],
+    body: &[Stmt],
+) -> Result<(), NoMemory>
+    ensures { OnOk result (out.new ≡ out.old ++ (bound_name line name.now ++ parameters line [] items.now
+        ++ Enter kind.Function ∷ takes items.now ++ says_block body.now inside_function ++ Leave ∷ [])) }
+{
+    def_head(out, line, name, items)?;
+    block(out, Where::FUNCTION, body)?;
+    out.push(Event::Leave)?;
+    Ok(())
+}
+
+/// Adds what a `class` says.
+#[cycle(statements)]
+fn class(
+    out: &mut Outline,
+    line: u32,
+    name: &Bytes,
+    base: &Option<Expr>,
+    body: &[Stmt],
+) -> Result<(), NoMemory>
+    ensures { OnOk result (out.new ≡ out.old ++ (bound_name line name.now ++ read_some line base.now
+        ++ (Enter kind.Class ∷ []) ++ says_block body.now outside ++ Leave ∷ [])) }
+{
+    class_head(out, line, name, base)?;
+    block(out, Where::OUTSIDE, body)?;
+    out.push(Event::Leave)?;
+    Ok(())
 }
 
 /// Adds what the statements of a block say.

@@ -23,7 +23,13 @@ impl<'a> Model for Table<'a> {
 
     ghost Value = { Names };
 
-    ghost view = { λ t. record { kind = t.kind; mentioned = t.mentioned; bound = t.bound; declared = t.declared; parameters = t.parameters } };
+    ghost view = { λ t. record {
+      kind = t.kind;
+      mentioned = t.mentioned;
+      bound = t.bound;
+      declared = t.declared;
+      parameters = t.parameters;
+    } };
 }
 
 impl<'a> Table<'a> {

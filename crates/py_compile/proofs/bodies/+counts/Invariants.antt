@@ -6,6 +6,12 @@ use Rattle.py_compile.proofs.bodies.+counts.Given as goal
 abbrev pub decreases-bodies_in : goal.decreases-bodies_in
 decreases-bodies_in l = weight l.x.now
 
+abbrev pub decreases-bodies_in_both : goal.decreases-bodies_in_both
+decreases-bodies_in_both l = 2 + (weights l.items.now + weights_some l.other.now)
+
+abbrev pub decreases-bodies_with : goal.decreases-bodies_with
+decreases-bodies_with l = 2 + weights l.items.now
+
 abbrev pub decreases-bodies_in_try : goal.decreases-bodies_in_try
 decreases-bodies_in_try l = 4 + (weights l.block.now.body +
     (weights_handlers l.handlers.now + weights_some l.other.now))

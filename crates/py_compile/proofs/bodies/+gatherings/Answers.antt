@@ -33,34 +33,28 @@ gather_one-returns-in_ok-gather-in-If-clause-bodies t c =
     (sym (stated_if c.in-If.arms c.in-If.other))
     ∙ ap (λ z. numbered 0 c.args.out.now ++ (stated z).inner (length c.args.out.now)) (sym c.in-If.is)
 
-pub gather_one-returns-in_ok-gather-in-While-2-clause-bodies :
-    goal.gather_one-returns-in_ok-gather-in-While-2-clause-bodies
-gather_one-returns-in_ok-gather-in-While-2-clause-bodies t c =
-    two (numbered 0 c.args.out.now) _ _ (inners (all_stated c.in-While.arm.body) (length c.args.out.now))
-    (inners (all_stated c.clause_body-in-While.result.now)) (length c.args.out.now) _
-    (count (all_stated c.in-While.arm.body))
-    (rw c.as_slice-in-While.ensures at c.in_ok-gather-in-While.ensures.bodies)
-    (rw c.as_slice-in-While.ensures at c.in_ok-gather-in-While.ensures.more)
-    c.in_ok-gather-in-While-2.ensures.bodies
-    ∙ ap (λ z. numbered 0 c.args.out.now ++
-    (inners (all_stated c.in-While.arm.body) (length c.args.out.now) ++ z.inner
-    (length c.args.out.now + count (all_stated c.in-While.arm.body)))) (sym c.clause_body-in-While.ensures.same)
-    ∙ ap (λ z. numbered 0 c.args.out.now ++ z.inner (length c.args.out.now))
-    (sym (stated_while c.in-While.arm c.in-While.other))
-    ∙ ap (λ z. numbered 0 c.args.out.now ++ (stated z).inner (length c.args.out.now)) (sym c.in-While.is)
+pub gather_one-returns-in-While-clause-bodies : goal.gather_one-returns-in-While-clause-bodies
+gather_one-returns-in-While-clause-bodies t c =
+    rw (c.in-While.is, stated_while c.in-While.arm c.in-While.other, ← c.as_slice-in-While.ensures)
+    c.gather_both.ensures.bodies
 
-pub gather_one-returns-in_ok-gather-in-For-2-clause-bodies : goal.gather_one-returns-in_ok-gather-in-For-2-clause-bodies
-gather_one-returns-in_ok-gather-in-For-2-clause-bodies t c =
-    two (numbered 0 c.args.out.now) _ _ (inners (all_stated c.in-For.body) (length c.args.out.now))
-    (inners (all_stated c.clause_body-in-For.result.now)) (length c.args.out.now) _
-    (count (all_stated c.in-For.body)) (rw c.as_slice-in-For.ensures at c.in_ok-gather-in-For.ensures.bodies)
-    (rw c.as_slice-in-For.ensures at c.in_ok-gather-in-For.ensures.more) c.in_ok-gather-in-For-2.ensures.bodies
+pub gather_one-returns-in-For-clause-bodies : goal.gather_one-returns-in-For-clause-bodies
+gather_one-returns-in-For-clause-bodies t c =
+    rw (
+      c.in-For.is,
+      stated_for c.in-For.field-0 c.in-For.field-1 c.in-For.field-2 c.in-For.body c.in-For.other,
+      ← c.as_slice-in-For.ensures,
+    )
+    c.gather_both-in-For.ensures.bodies
+
+pub gather_both-returns-clause-bodies : goal.gather_both-returns-clause-bodies
+gather_both-returns-clause-bodies t c =
+    two (numbered 0 c.args.out.now) _ _ (inners (all_stated c.args.items.now) (length c.args.out.now))
+    (inners (all_stated c.clause_body.result.now)) (length c.args.out.now) _ (count (all_stated c.args.items.now))
+    c.in_ok-gather.ensures.bodies c.in_ok-gather.ensures.more c.in_ok-gather-2.ensures.bodies
     ∙ ap (λ z. numbered 0 c.args.out.now ++
-    (inners (all_stated c.in-For.body) (length c.args.out.now) ++ z.inner
-    (length c.args.out.now + count (all_stated c.in-For.body)))) (sym c.clause_body-in-For.ensures.same)
-    ∙ ap (λ z. numbered 0 c.args.out.now ++ z.inner (length c.args.out.now))
-    (sym (stated_for c.in-For.field-0 c.in-For.field-1 c.in-For.field-2 c.in-For.body c.in-For.other))
-    ∙ ap (λ z. numbered 0 c.args.out.now ++ (stated z).inner (length c.args.out.now)) (sym c.in-For.is)
+    (inners (all_stated c.args.items.now) (length c.args.out.now) ++ z.inner
+    (length c.args.out.now + count (all_stated c.args.items.now)))) (sym c.clause_body.ensures.same)
 
 pub gather_one-returns-in_ok-gather-in-Try-clause-bodies : goal.gather_one-returns-in_ok-gather-in-Try-clause-bodies
 gather_one-returns-in_ok-gather-in-Try-clause-bodies t c =

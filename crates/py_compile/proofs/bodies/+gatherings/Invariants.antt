@@ -7,6 +7,9 @@ use Rattle.py_compile.proofs.bodies.+gatherings.Given as goal
 abbrev pub decreases-gather_one : goal.decreases-gather_one
 decreases-gather_one l = weight l.x.now
 
+abbrev pub decreases-gather_both : goal.decreases-gather_both
+decreases-gather_both l = 2 + (weights l.items.now + weights_some l.other.now)
+
 abbrev pub decreases-gather_try : goal.decreases-gather_try
 decreases-gather_try l = 4 + (weights l.block.now.body + (weights_handlers l.handlers.now + weights_some l.other.now))
 

@@ -1,7 +1,8 @@
 use Rattle.std.proofs.Common.{ap, ◌∙◌, ◌∷◌}
 use Rattle.py_tree.specs.declared.expr.Trailer.TheVariants as trailer
 use Rattle.py_compile.specs.inner.Tasks.{Behind}
-use Rattle.py_compile.proofs.Steps.{attribute_attribute, attribute_index, attribute_none, attribute_slice, split_as, then_ok}
+use Rattle.py_compile.proofs.RowSteps.{attribute_attribute, attribute_index, attribute_none, attribute_slice}
+use Rattle.py_compile.proofs.Steps.{split_as, then_ok}
 use Rattle.py_compile.proofs.expression.attribute.Goals as goal
 
 pub returns-in-None-clause-done : goal.returns-in-None-clause-done

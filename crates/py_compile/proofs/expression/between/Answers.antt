@@ -1,6 +1,7 @@
 use Rattle.std.proofs.Common.{ap}
 use Rattle.py_compile.specs.inner.Tasks.{Between}
-use Rattle.py_compile.proofs.Steps.{between_more, split_as, then_ok}
+use Rattle.py_compile.proofs.RowSteps.{between_more}
+use Rattle.py_compile.proofs.Steps.{split_as, then_ok}
 use Rattle.py_compile.proofs.expression.between.Goals as goal
 
 pub returns-in_ok-push_three-in-Some-clause-done : goal.returns-in_ok-push_three-in-Some-clause-done

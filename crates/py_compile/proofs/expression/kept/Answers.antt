@@ -1,6 +1,7 @@
 use Rattle.std.proofs.Common.{ap}
 use Rattle.py_compile.specs.inner.Tasks.{Kept}
-use Rattle.py_compile.proofs.Steps.{kept_more, split_as, then_ok}
+use Rattle.py_compile.proofs.RowSteps.{kept_more}
+use Rattle.py_compile.proofs.Steps.{split_as, then_ok}
 use Rattle.py_compile.proofs.expression.kept.Goals as goal
 
 pub returns-in-Some-clause-done : goal.returns-in-Some-clause-done

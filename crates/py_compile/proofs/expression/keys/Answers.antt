@@ -1,6 +1,7 @@
 use Rattle.std.proofs.Common.{ap}
 use Rattle.py_compile.specs.inner.Tasks.{Keys}
-use Rattle.py_compile.proofs.Steps.{keys_more, split_as, then_ok}
+use Rattle.py_compile.proofs.RowSteps.{keys_more}
+use Rattle.py_compile.proofs.Steps.{split_as, then_ok}
 use Rattle.py_compile.proofs.expression.keys.Goals as goal
 
 pub returns-in-Some-clause-done : goal.returns-in-Some-clause-done

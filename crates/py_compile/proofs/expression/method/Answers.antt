@@ -1,5 +1,6 @@
 use Rattle.std.proofs.Common.{refl}
-use Rattle.py_compile.proofs.Steps.{attribute_call, split_as, then_ok}
+use Rattle.py_compile.proofs.RowSteps.{attribute_call}
+use Rattle.py_compile.proofs.Steps.{split_as, then_ok}
 use Rattle.py_compile.proofs.expression.method.Goals as goal
 
 pub returns-clause-done : goal.returns-clause-done

@@ -1,6 +1,7 @@
 use Rattle.std.proofs.Common.{ap, ◌∷◌}
 use Rattle.py_compile.specs.inner.Tasks.{Behind}
-use Rattle.py_compile.proofs.Steps.{behind_call, behind_index, behind_slice, split_as, then_ok}
+use Rattle.py_compile.proofs.RowSteps.{behind_call, behind_index, behind_slice}
+use Rattle.py_compile.proofs.Steps.{split_as, then_ok}
 use Rattle.py_compile.proofs.expression.trailer.Goals as goal
 
 pub returns-in-Index-clause-done : goal.returns-in-Index-clause-done

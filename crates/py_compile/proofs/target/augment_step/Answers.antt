@@ -3,7 +3,8 @@ use Rattle.py_tree.specs.declared.expr.Expr.TheVariants as tree
 use Rattle.py_compile.specs.inner.Tasks.{Augment}
 use Rattle.py_compile.specs.Expressions.{add_at, operator, value}
 use Rattle.py_compile.proofs.Coded.{coded_chain, coded_choice, coded_dict, coded_int, coded_list, coded_not, coded_power, coded_str, coded_tuple, coded_unary}
-use Rattle.py_compile.proofs.Steps.{augment_group, augment_name, augment_nowhere, split_as, then_ok}
+use Rattle.py_compile.proofs.TargetSteps.{augment_group, augment_name, augment_nowhere}
+use Rattle.py_compile.proofs.Steps.{split_as, then_ok}
 use Rattle.py_compile.proofs.target.augment_step.Goals as goal
 
 pub returns-in-Name-clause-done : goal.returns-in-Name-clause-done

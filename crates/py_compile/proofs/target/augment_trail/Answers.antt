@@ -4,7 +4,8 @@ use Rattle.py_tree.specs.declared.expr.Trailer.TheVariants as trailer
 use Rattle.py_compile.specs.inner.Tasks.{Augment}
 use Rattle.py_compile.specs.Expressions.{add_at, operator, value}
 use Rattle.py_compile.proofs.Coded.{coded_call, coded_slice, coded_trail}
-use Rattle.py_compile.proofs.Steps.{augment_attribute, augment_index, augment_nowhere, split_as, then_ok, trail_place}
+use Rattle.py_compile.proofs.TargetSteps.{augment_attribute, augment_index, augment_nowhere, trail_place}
+use Rattle.py_compile.proofs.Steps.{split_as, then_ok}
 use Rattle.py_compile.proofs.target.augment_trail.Goals as goal
 
 pub returns-in-None-clause-done : goal.returns-in-None-clause-done

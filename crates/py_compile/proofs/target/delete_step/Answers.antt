@@ -2,7 +2,8 @@ use Rattle.std.proofs.Common.{refl, ap}
 use Rattle.py_tree.specs.declared.expr.Expr.TheVariants as tree
 use Rattle.py_compile.specs.inner.Tasks.{Delete}
 use Rattle.py_compile.proofs.Coded.{coded_chain, coded_choice, coded_dict, coded_int, coded_not, coded_power, coded_str, coded_unary}
-use Rattle.py_compile.proofs.Steps.{delete_group, delete_list, delete_name, delete_nowhere, delete_tuple, split_as, then_ok}
+use Rattle.py_compile.proofs.TargetSteps.{delete_group, delete_list, delete_name, delete_nowhere, delete_tuple}
+use Rattle.py_compile.proofs.Steps.{split_as, then_ok}
 use Rattle.py_compile.proofs.target.delete_step.Goals as goal
 
 pub returns-in-Name-clause-done : goal.returns-in-Name-clause-done

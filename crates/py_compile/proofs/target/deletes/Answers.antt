@@ -1,6 +1,7 @@
 use Rattle.std.proofs.Common.{ap}
 use Rattle.py_compile.specs.inner.Tasks.{Deletes}
-use Rattle.py_compile.proofs.Steps.{deletes_more, split_as, then_ok}
+use Rattle.py_compile.proofs.TargetSteps.{deletes_more}
+use Rattle.py_compile.proofs.Steps.{split_as, then_ok}
 use Rattle.py_compile.proofs.target.deletes.Goals as goal
 
 pub returns-in-Some-clause-done : goal.returns-in-Some-clause-done

@@ -2,7 +2,8 @@ use Rattle.std.proofs.Common.{refl, ap}
 use Rattle.py_tree.specs.declared.expr.Expr.TheVariants as tree
 use Rattle.py_compile.specs.inner.Tasks.{Store}
 use Rattle.py_compile.proofs.Coded.{coded_chain, coded_choice, coded_dict, coded_int, coded_not, coded_power, coded_str, coded_unary}
-use Rattle.py_compile.proofs.Steps.{split_as, store_group, store_list, store_name, store_nowhere, store_tuple, then_ok}
+use Rattle.py_compile.proofs.Steps.{split_as, then_ok}
+use Rattle.py_compile.proofs.TargetSteps.{store_group, store_list, store_name, store_nowhere, store_tuple}
 use Rattle.py_compile.proofs.target.store_step.Goals as goal
 
 pub returns-in-Name-clause-done : goal.returns-in-Name-clause-done

@@ -3,7 +3,8 @@ use Rattle.py_tree.specs.declared.expr.Expr.TheVariants as tree
 use Rattle.py_tree.specs.declared.expr.Trailer.TheVariants as trailer
 use Rattle.py_compile.specs.inner.Tasks.{Store}
 use Rattle.py_compile.proofs.Coded.{coded_call, coded_slice, coded_trail}
-use Rattle.py_compile.proofs.Steps.{split_as, store_attribute, store_index, store_nowhere, then_ok, trail_place}
+use Rattle.py_compile.proofs.Steps.{split_as, then_ok}
+use Rattle.py_compile.proofs.TargetSteps.{store_attribute, store_index, store_nowhere, trail_place}
 use Rattle.py_compile.proofs.target.store_trail.Goals as goal
 
 pub returns-in-None-clause-done : goal.returns-in-None-clause-done

@@ -1,6 +1,7 @@
 use Rattle.std.proofs.Common.{ap}
 use Rattle.py_compile.specs.inner.Tasks.{Stores}
-use Rattle.py_compile.proofs.Steps.{split_as, stores_more, then_ok}
+use Rattle.py_compile.proofs.Steps.{split_as, then_ok}
+use Rattle.py_compile.proofs.TargetSteps.{stores_more}
 use Rattle.py_compile.proofs.target.stores.Goals as goal
 
 pub returns-in-Some-clause-done : goal.returns-in-Some-clause-done
