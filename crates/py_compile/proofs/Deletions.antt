@@ -14,10 +14,10 @@ use Rattle.py_compile.specs.inner.Deletions.{SameDeletions}
 use Rattle.py_compile.proofs.Coded.{coded_group, coded_tuple, coded_list, coded_int, coded_str, coded_dict, coded_power, coded_unary, coded_chain, coded_not, coded_choice}
 use Rattle.py_compile.proofs.RowsEqual.{row_flat, row_front}
 
-all_deleted-append : (n : Known) (ln : ℕ) (xs ys : List Expr) →
+all_deleted_append : (n : Known) (ln : ℕ) (xs ys : List Expr) →
     all_deleted n ln (xs ++ ys) ≡ all_deleted n ln xs ++ all_deleted n ln ys
-all_deleted-append n ln [] ys = refl
-all_deleted-append n ln (x ∷ xs) ys = ap (λ z. deleted n ln x ∷ z) (all_deleted-append n ln xs ys)
+all_deleted_append n ln [] ys = refl
+all_deleted_append n ln (x ∷ xs) ys = ap (λ z. deleted n ln x ∷ z) (all_deleted_append n ln xs ys)
 
 pub same : (xs ys : List Expr) → xs ≡ ys → SameDeletions xs ys
 same xs ys q = record { code = λ n ln. ap (λ z. row (all_deleted n ln z)) q }
@@ -28,20 +28,20 @@ chain xs ys zs s t = record { code = λ n ln. s.code n ln ∙ t.code n ln }
 -- before the same targets
 before : (xs ys zs : List Expr) → SameDeletions xs ys → SameDeletions (xs ++ zs) (ys ++ zs)
 before xs ys zs s = record {
-  code = λ n ln. ap row (all_deleted-append n ln xs zs)
+  code = λ n ln. ap row (all_deleted_append n ln xs zs)
       ∙ row_front (all_deleted n ln xs) (all_deleted n ln ys) (all_deleted n ln zs) (s.code n ln)
-      ∙ ap row (sym (all_deleted-append n ln ys zs));
+      ∙ ap row (sym (all_deleted_append n ln ys zs));
 }
 
 -- a target that is deleted by a row, behind others
 in_row : (xs ys : List Expr) (x : Expr) → ((n : Known) (ln : ℕ) → deleted n ln x ≡ row (all_deleted n ln ys)) →
     SameDeletions (xs ++ ys) (xs ++ x ∷ [])
 in_row xs ys x q = record {
-  code = λ n ln. ap row (all_deleted-append n ln xs ys)
+  code = λ n ln. ap row (all_deleted_append n ln xs ys)
       ∙ ap (λ z. row (all_deleted n ln xs ++ z)) (sym (append-nil (all_deleted n ln ys)))
       ∙ sym (row_flat (all_deleted n ln xs) (all_deleted n ln ys) [])
       ∙ ap (λ z. row (all_deleted n ln xs ++ z ∷ [])) (sym (q n ln))
-      ∙ ap row (sym (all_deleted-append n ln xs (x ∷ [])));
+      ∙ ap row (sym (all_deleted_append n ln xs (x ∷ [])));
 }
 
 -- what isn't a target has no deletion
@@ -78,9 +78,9 @@ none_choice xs a b d = none xs (e.Choice a b d) (λ n ln. ap (λ c. c.place) (co
 pub in_group : (xs os : List Expr) (a : Expr) → SameDeletions xs (os ++ a ∷ []) →
     SameDeletions xs (os ++ e.Group a ∷ [])
 in_group xs os a s = chain xs (os ++ a ∷ []) (os ++ e.Group a ∷ []) s (record {
-  code = λ n ln. ap row (all_deleted-append n ln os (a ∷ []))
+  code = λ n ln. ap row (all_deleted_append n ln os (a ∷ []))
       ∙ ap (λ c. row (all_deleted n ln os ++ del_at ln c.place ∷ [])) (sym (coded_group n ln a))
-      ∙ ap row (sym (all_deleted-append n ln os (e.Group a ∷ [])));
+      ∙ ap row (sym (all_deleted_append n ln os (e.Group a ∷ [])));
 })
 
 pub in_tuple : (xs os ys : List Expr) → SameDeletions xs (os ++ ys) → SameDeletions xs (os ++ e.Tuple ys ∷ [])

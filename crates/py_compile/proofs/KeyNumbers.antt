@@ -31,6 +31,6 @@ number_is ks kss o e =
     found false p = refl
 
 -- a call has as many names as keyword arguments
-pub length-key_names : (named : List Named) → length (key_names named) ≡ length named
-length-key_names [] = refl
-length-key_names (k ∷ ks) = ap (λ n. suc n) (length-key_names ks)
+pub length_key_names : (named : List Named) → length (key_names named) ≡ length named
+length_key_names [] = refl
+length_key_names (k ∷ ks) = ap (λ n. suc n) (length_key_names ks)

@@ -30,13 +30,13 @@ pair : Inside → Pair → List Use
 pair b = fold-Pair Used (List Use) (List Use) (List ℕ × List Use) (List Use) (expr_step b) (trailer_step b)
     (link_step b) (named_step b) (pair_step b)
 
-reads-all : (b : Inside) (es : List Expr) → reads (map (used b) es) ≡ read_all b es
-reads-all b [] = refl
-reads-all b (a ∷ es) = ap (λ z. read b a ++ z) (reads-all b es)
+reads_all : (b : Inside) (es : List Expr) → reads (map (used b) es) ≡ read_all b es
+reads_all b [] = refl
+reads_all b (a ∷ es) = ap (λ z. read b a ++ z) (reads_all b es)
 
-targets-all : (b : Inside) (es : List Expr) → targets (map (used b) es) ≡ target_all b es
-targets-all b [] = refl
-targets-all b (a ∷ es) = ap (λ z. target b a ++ z) (targets-all b es)
+targets_all : (b : Inside) (es : List Expr) → targets (map (used b) es) ≡ target_all b es
+targets_all b [] = refl
+targets_all b (a ∷ es) = ap (λ z. target b a ++ z) (targets_all b es)
 
 one_link : (b : Inside) (l : Link) → link b l ≡ read b l.operand
 unfolding link used
@@ -98,16 +98,16 @@ pub used_tuple : (b : Inside) (es : List Expr) →
 unfolding used link named pair used_trailer
 used_tuple b es = ap (used b) (sym (e.rolls-Tuple es)) ∙ fold-roll-Expr Used (List Use) (List Use) (List ℕ × List Use)
     (List Use) (expr_step b) (trailer_step b) (link_step b) (named_step b) (pair_step b) (open'.Tuple es) ∙
-    ap (λ z. record { read = z; target = targets (map (used b) es) }) (reads-all b es) ∙
-    ap (λ z. record { read = read_all b es; target = z }) (targets-all b es)
+    ap (λ z. record { read = z; target = targets (map (used b) es) }) (reads_all b es) ∙
+    ap (λ z. record { read = read_all b es; target = z }) (targets_all b es)
 
 pub used_list : (b : Inside) (es : List Expr) →
     used b (e.List es) ≡ record { read = read_all b es; target = target_all b es }
 unfolding used link named pair used_trailer
 used_list b es = ap (used b) (sym (e.rolls-List es)) ∙ fold-roll-Expr Used (List Use) (List Use) (List ℕ × List Use)
     (List Use) (expr_step b) (trailer_step b) (link_step b) (named_step b) (pair_step b) (open'.List es) ∙
-    ap (λ z. record { read = z; target = targets (map (used b) es) }) (reads-all b es) ∙
-    ap (λ z. record { read = read_all b es; target = z }) (targets-all b es)
+    ap (λ z. record { read = z; target = targets (map (used b) es) }) (reads_all b es) ∙
+    ap (λ z. record { read = read_all b es; target = z }) (targets_all b es)
 
 pub used_dict : (b : Inside) (ps : List Pair) → used b (e.Dict ps) ≡ only (read_pairs b ps)
 unfolding used link named pair used_trailer
@@ -188,7 +188,7 @@ used_call b es ks = ap (used_trailer b) (sym (t.rolls-Call es ks)) ∙
     fold-roll-Trailer Used (List Use) (List Use) (List ℕ × List Use) (List Use) (expr_step b) (trailer_step b)
     (link_step b) (named_step b) (pair_step b) (open'.Call es ks) ∙
     ap (λ z. z ++ joined (map (λ k. Text k.0 ∷ k.1) (map (named b) ks)) ++ Keys b.number
-    (map (λ k. k.0) (map (named b) ks)) ∷ []) (reads-all b es) ∙
+    (map (λ k. k.0) (map (named b) ks)) ∷ []) (reads_all b es) ∙
     ap (λ z. read_all b es ++ z ++ Keys b.number (map (λ k. k.0) (map (named b) ks)) ∷ []) (all_named b ks) ∙
     ap (λ z. read_all b es ++ read_named b ks ++ Keys b.number z ∷ []) (all_names b ks)
 

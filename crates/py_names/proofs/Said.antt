@@ -31,13 +31,13 @@ pair : ℕ → Pair → List Event
 pair line = fold-Pair Said (List Event) (List Event) (List ℕ × Said) (List Event) (expr_step line) (trailer_step line)
     (link_step line) (named_step line) (pair_step line)
 
-reads-all : (line : ℕ) (es : List Expr) → reads (map (said line) es) ≡ read_all line es
-reads-all line [] = refl
-reads-all line (a ∷ es) = ap (λ z. read line a ++ z) (reads-all line es)
+reads_all : (line : ℕ) (es : List Expr) → reads (map (said line) es) ≡ read_all line es
+reads_all line [] = refl
+reads_all line (a ∷ es) = ap (λ z. read line a ++ z) (reads_all line es)
 
-targets-all : (line : ℕ) (es : List Expr) → targets (map (said line) es) ≡ target_all line es
-targets-all line [] = refl
-targets-all line (a ∷ es) = ap (λ z. target line a ++ z) (targets-all line es)
+targets_all : (line : ℕ) (es : List Expr) → targets (map (said line) es) ≡ target_all line es
+targets_all line [] = refl
+targets_all line (a ∷ es) = ap (λ z. target line a ++ z) (targets_all line es)
 
 one_link : (line : ℕ) (l : Link) → link line l ≡ (said line l.operand).read
 unfolding link said
@@ -103,8 +103,8 @@ unfolding said link named pair said_trailer
 said_tuple line es = ap (said line) (sym (e.rolls-Tuple es)) ∙
     fold-roll-Expr Said (List Event) (List Event) (List ℕ × Said) (List Event) (expr_step line) (trailer_step line)
     (link_step line) (named_step line) (pair_step line) (open'.Tuple es) ∙
-    ap (λ z. record { read = z; target = targets (map (said line) es) }) (reads-all line es) ∙
-    ap (λ z. record { read = read_all line es; target = z }) (targets-all line es)
+    ap (λ z. record { read = z; target = targets (map (said line) es) }) (reads_all line es) ∙
+    ap (λ z. record { read = read_all line es; target = z }) (targets_all line es)
 
 pub said_list : (line : ℕ) (es : List Expr) →
     said line (e.List es) ≡ record { read = read_all line es; target = target_all line es }
@@ -112,8 +112,8 @@ unfolding said link named pair said_trailer
 said_list line es = ap (said line) (sym (e.rolls-List es)) ∙
     fold-roll-Expr Said (List Event) (List Event) (List ℕ × Said) (List Event) (expr_step line) (trailer_step line)
     (link_step line) (named_step line) (pair_step line) (open'.List es) ∙
-    ap (λ z. record { read = z; target = targets (map (said line) es) }) (reads-all line es) ∙
-    ap (λ z. record { read = read_all line es; target = z }) (targets-all line es)
+    ap (λ z. record { read = z; target = targets (map (said line) es) }) (reads_all line es) ∙
+    ap (λ z. record { read = read_all line es; target = z }) (targets_all line es)
 
 pub said_dict : (line : ℕ) (ps : List Pair) → said line (e.Dict ps) ≡ plain (read_pairs line ps)
 unfolding said link named pair said_trailer
@@ -195,7 +195,7 @@ unfolding said_trailer said link named pair
 said_call line es ks = ap (said_trailer line) (sym (t.rolls-Call es ks)) ∙
     fold-roll-Trailer Said (List Event) (List Event) (List ℕ × Said) (List Event) (expr_step line) (trailer_step line)
     (link_step line) (named_step line) (pair_step line) (open'.Call es ks) ∙
-    ap (λ z. z ++ keywords line [] (map (named line) ks)) (reads-all line es) ∙
+    ap (λ z. z ++ keywords line [] (map (named line) ks)) (reads_all line es) ∙
     ap (λ z. read_all line es ++ z) (all_keywords line [] ks)
 
 pub told_int : (r : Role) (line : ℕ) (n : ℤ) → told r line (e.Int n) ≡ []

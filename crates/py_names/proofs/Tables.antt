@@ -16,38 +16,38 @@ abbrev pub Below : ℕ → List ℕ → Type 0
 Below n [] = Unit {0}
 Below n (b ∷ bs) = (b < n) × Below n bs
 
-below-more : (n : ℕ) (bs : List ℕ) → Below n bs → Below (n + 1) bs
-below-more n [] a = tt
-below-more n (b ∷ bs) a = (omega arith, below-more n bs a.1)
+below_more : (n : ℕ) (bs : List ℕ) → Below n bs → Below (n + 1) bs
+below_more n [] a = tt
+below_more n (b ∷ bs) a = (omega arith, below_more n bs a.1)
 
-below-drop : (n : ℕ) (bs : List ℕ) → Below n bs → Below n (drop 1 bs)
-below-drop n [] a = tt
-below-drop n (b ∷ bs) a = a.1
+below_drop : (n : ℕ) (bs : List ℕ) → Below n bs → Below n (drop 1 bs)
+below_drop n [] a = tt
+below_drop n (b ∷ bs) a = a.1
 
 -- ---- one more event of a body
 
-at-end : (ts : List Names) (t : Names) (k : ℕ) → at (ts ++ t ∷ []) k ≡ cond (length ts == k) t (at ts k)
-at-end [] t zero = refl
-at-end [] t (suc k) = rw (eqb-zero-suc k) refl
-at-end (x ∷ ts) t zero = rw (eqb-suc-zero (length ts)) refl
-at-end (x ∷ ts) t (suc k) = rw (eqb-suc-suc (length ts) k) (at-end ts t k)
+at_end : (ts : List Names) (t : Names) (k : ℕ) → at (ts ++ t ∷ []) k ≡ cond (length ts == k) t (at ts k)
+at_end [] t zero = refl
+at_end [] t (suc k) = rw (eqb-zero-suc k) refl
+at_end (x ∷ ts) t zero = rw (eqb-suc-zero (length ts)) refl
+at_end (x ∷ ts) t (suc k) = rw (eqb-suc-suc (length ts) k) (at_end ts t k)
 
-at-beyond : (ts : List Names) → at ts (length ts) ≡ no_names
-at-beyond [] = refl
-at-beyond (x ∷ ts) = at-beyond ts
+at_beyond : (ts : List Names) → at ts (length ts) ≡ no_names
+at_beyond [] = refl
+at_beyond (x ∷ ts) = at_beyond ts
 
-at-set : (ts : List Names) (b k : ℕ) (t : Names) → b < length ts → at (slice_set ts b t) k ≡ cond (b == k) t (at ts k)
-at-set [] b k t a = absurd (omega arith)
-at-set (x ∷ ts) zero zero t a = refl
-at-set (x ∷ ts) zero (suc k) t a = rw (eqb-zero-suc k) refl
-at-set (x ∷ ts) (suc b) zero t a = rw (eqb-suc-zero b) refl
-at-set (x ∷ ts) (suc b) (suc k) t a = rw (eqb-suc-suc b k) (at-set ts b k t (omega arith))
+at_set : (ts : List Names) (b k : ℕ) (t : Names) → b < length ts → at (slice_set ts b t) k ≡ cond (b == k) t (at ts k)
+at_set [] b k t a = absurd (omega arith)
+at_set (x ∷ ts) zero zero t a = refl
+at_set (x ∷ ts) zero (suc k) t a = rw (eqb-zero-suc k) refl
+at_set (x ∷ ts) (suc b) zero t a = rw (eqb-suc-zero b) refl
+at_set (x ∷ ts) (suc b) (suc k) t a = rw (eqb-suc-suc b k) (at_set ts b k t (omega arith))
 
 -- what follows where an event is told to the innermost body, which stays the innermost
 still : (ts : List Names) (b : ℕ) (e : Event) (ps : List Placed) (k : ℕ) → b < length ts →
     names_from (at (slice_set ts b (names_after (at ts b) e)) k) (said_in k ps) ≡ names_from (at ts k)
     (cond (b == k) (e ∷ said_in k ps) (said_in k ps))
-still ts b e ps k a = ap (λ z. names_from z (said_in k ps)) (at-set ts b k (names_after (at ts b) e) a) ∙
+still ts b e ps k a = ap (λ z. names_from z (said_in k ps)) (at_set ts b k (names_after (at ts b) e) a) ∙
     go (b == k) refl
   where
     go : (q : Bool) → b == k ≡ q → names_from (cond q (names_after (at ts b) e) (at ts k)) (said_in k ps) ≡ names_from
@@ -55,15 +55,15 @@ still ts b e ps k a = ap (λ z. names_from z (said_in k ps)) (at-set ts b k (nam
     go false f = refl
     go true f = ap (λ z. names_from (names_after (at ts z) e) (said_in k ps)) (eqb-true b k f)
 
-below-told : (ts : List Names) (inside : List ℕ) (e : Event) → Below (length ts) inside →
+below_told : (ts : List Names) (inside : List ℕ) (e : Event) → Below (length ts) inside →
     Below (length (told ts inside e)) inside
-below-told ts [] e a = tt
-below-told ts (b ∷ bs) e a = subst (λ n. Below n (b ∷ bs)) (sym (length-set ts b (names_after (at ts b) e))) a
+below_told ts [] e a = tt
+below_told ts (b ∷ bs) e a = subst (λ n. Below n (b ∷ bs)) (sym (length-set ts b (names_after (at ts b) e))) a
 
-below-end : (ts : List Names) (t : Names) (bs : List ℕ) → Below (length ts) bs →
+below_end : (ts : List Names) (t : Names) (bs : List ℕ) → Below (length ts) bs →
     Below (length (ts ++ t ∷ [])) (length ts ∷ bs)
-below-end ts t bs a = subst (λ n. Below n (length ts ∷ bs)) (sym (length-append ts (t ∷ [])))
-    (omega arith, below-more (length ts) bs a)
+below_end ts t bs a = subst (λ n. Below n (length ts ∷ bs)) (sym (length-append ts (t ∷ [])))
+    (omega arith, below_more (length ts) bs a)
 
 -- The names of body k, where some were gathered before and these events follow.
 abbrev pub Gathers : ℕ → List Names → List ℕ → List Event → Type 0
@@ -85,44 +85,44 @@ left b false es = refl
 entered : (ts : List Names) (k : ℕ) (x : BodyKind) (es : List Event) →
     names_from (at (ts ++ names_after no_names (Enter x) ∷ []) k) es ≡ names_from (at ts k)
     (cond (length ts == k) (Enter x ∷ es) es)
-entered ts k x es = ap (λ z. names_from z es) (at-end ts (names_after no_names (Enter x)) k) ∙ go (length ts == k) refl
+entered ts k x es = ap (λ z. names_from z es) (at_end ts (names_after no_names (Enter x)) k) ∙ go (length ts == k) refl
   where
     go : (q : Bool) → length ts == k ≡ q → names_from (cond q (names_after no_names (Enter x)) (at ts k)) es ≡
         names_from (at ts k) (cond q (Enter x ∷ es) es)
     go false f = refl
     go true f = ap (λ z. names_from (names_after z (Enter x)) es)
-        (sym (ap (at ts) (sym (eqb-true (length ts) k f)) ∙ at-beyond ts))
+        (sym (ap (at ts) (sym (eqb-true (length ts) k f)) ∙ at_beyond ts))
 
 pub gathers : (es : List Event) (ts : List Names) (inside : List ℕ) (k : ℕ) → Below (length ts) inside →
     Gathers k ts inside es
 gathers [] ts inside k a = refl
 gathers (Enter x ∷ es) ts inside k a =
-    gathers es (ts ++ names_after no_names (Enter x) ∷ []) (length ts ∷ inside) k (below-end ts _ inside a)
+    gathers es (ts ++ names_after no_names (Enter x) ∷ []) (length ts ∷ inside) k (below_end ts _ inside a)
     ∙ ap (λ n. names_from (at (ts ++ names_after no_names (Enter x) ∷ []) k)
     (said_in k (placed (length ts ∷ inside) n es))) (length-append ts (names_after no_names (Enter x) ∷ []))
     ∙ entered ts k x (said_in k (placed (length ts ∷ inside) (length ts + 1) es))
-gathers (Leave ∷ es) ts inside k a = gathers es ts (drop 1 inside) k (below-drop (length ts) inside a) ∙
+gathers (Leave ∷ es) ts inside k a = gathers es ts (drop 1 inside) k (below_drop (length ts) inside a) ∙
     left (at ts k) (is_first k (drop 1 inside)) (said_in k (placed (drop 1 inside) (length ts) es))
 gathers (Takes n ∷ es) ts inside k a = others ts inside es k (Takes n) a
-    (gathers es (told ts inside (Takes n)) inside k (below-told ts inside _ a))
+    (gathers es (told ts inside (Takes n)) inside k (below_told ts inside _ a))
 gathers (Uses l n ∷ es) ts inside k a = others ts inside es k (Uses l n) a
-    (gathers es (told ts inside (Uses l n)) inside k (below-told ts inside _ a))
+    (gathers es (told ts inside (Uses l n)) inside k (below_told ts inside _ a))
 gathers (Binds l n ∷ es) ts inside k a =
-    others ts inside es k (Binds l n) a (gathers es (told ts inside (Binds l n)) inside k (below-told ts inside _ a))
+    others ts inside es k (Binds l n) a (gathers es (told ts inside (Binds l n)) inside k (below_told ts inside _ a))
 gathers (Declares l n ∷ es) ts inside k a =
     others ts inside es k (Declares l n) a
-    (gathers es (told ts inside (Declares l n)) inside k (below-told ts inside _ a))
+    (gathers es (told ts inside (Declares l n)) inside k (below_told ts inside _ a))
 gathers (Misplaced l ∷ es) ts inside k a =
     others ts inside es k (Misplaced l) a
-    (gathers es (told ts inside (Misplaced l)) inside k (below-told ts inside _ a))
+    (gathers es (told ts inside (Misplaced l)) inside k (below_told ts inside _ a))
 gathers (Doubled l ∷ es) ts inside k a =
-    others ts inside es k (Doubled l) a (gathers es (told ts inside (Doubled l)) inside k (below-told ts inside _ a))
+    others ts inside es k (Doubled l) a (gathers es (told ts inside (Doubled l)) inside k (below_told ts inside _ a))
 
 -- ---- how many
 
-told-length : (ts : List Names) (inside : List ℕ) (e : Event) → length (told ts inside e) ≡ length ts
-told-length ts [] e = refl
-told-length ts (b ∷ bs) e = length-set ts b _
+told_length : (ts : List Names) (inside : List ℕ) (e : Event) → length (told ts inside e) ≡ length ts
+told_length ts [] e = refl
+told_length ts (b ∷ bs) e = length-set ts b _
 
 pub counts : (es : List Event) (ts : List Names) (inside : List ℕ) →
     length (tables_by ts inside es) ≡ bodies (length ts) es
@@ -130,19 +130,19 @@ counts [] ts inside = refl
 counts (Enter x ∷ es) ts inside = counts es (ts ++ names_after no_names (Enter x) ∷ []) (length ts ∷ inside) ∙
     ap (λ n. bodies n es) (length-append ts (names_after no_names (Enter x) ∷ []))
 counts (Leave ∷ es) ts inside = counts es ts (drop 1 inside)
-counts (Takes n ∷ es) ts inside = counts es _ inside ∙ ap (λ m. bodies m es) (told-length ts inside (Takes n))
-counts (Uses l n ∷ es) ts inside = counts es _ inside ∙ ap (λ m. bodies m es) (told-length ts inside (Uses l n))
-counts (Binds l n ∷ es) ts inside = counts es _ inside ∙ ap (λ m. bodies m es) (told-length ts inside (Binds l n))
-counts (Declares l n ∷ es) ts inside = counts es _ inside ∙ ap (λ m. bodies m es) (told-length ts inside (Declares l n))
-counts (Misplaced l ∷ es) ts inside = counts es _ inside ∙ ap (λ m. bodies m es) (told-length ts inside (Misplaced l))
-counts (Doubled l ∷ es) ts inside = counts es _ inside ∙ ap (λ m. bodies m es) (told-length ts inside (Doubled l))
+counts (Takes n ∷ es) ts inside = counts es _ inside ∙ ap (λ m. bodies m es) (told_length ts inside (Takes n))
+counts (Uses l n ∷ es) ts inside = counts es _ inside ∙ ap (λ m. bodies m es) (told_length ts inside (Uses l n))
+counts (Binds l n ∷ es) ts inside = counts es _ inside ∙ ap (λ m. bodies m es) (told_length ts inside (Binds l n))
+counts (Declares l n ∷ es) ts inside = counts es _ inside ∙ ap (λ m. bodies m es) (told_length ts inside (Declares l n))
+counts (Misplaced l ∷ es) ts inside = counts es _ inside ∙ ap (λ m. bodies m es) (told_length ts inside (Misplaced l))
+counts (Doubled l ∷ es) ts inside = counts es _ inside ∙ ap (λ m. bodies m es) (told_length ts inside (Doubled l))
 
 -- ---- scopes and refusals
 
-shown-at : (ts : List Names) (k : ℕ) → k < length ts → slice_get (map scope_of ts) k ≡ Some (scope_of (at ts k))
-shown-at [] k a = absurd (omega arith)
-shown-at (t ∷ ts) zero a = refl
-shown-at (t ∷ ts) (suc k) a = shown-at ts k (omega arith)
+shown_at : (ts : List Names) (k : ℕ) → k < length ts → slice_get (map scope_of ts) k ≡ Some (scope_of (at ts k))
+shown_at [] k a = absurd (omega arith)
+shown_at (t ∷ ts) zero a = refl
+shown_at (t ∷ ts) (suc k) a = shown_at ts k (omega arith)
 
 -- the names that were gathered, as the definition has them
 same_names : (es : List Event) (ts : List Names) → ts ≡ tables_by [] [] es → at ts ≡ body es
@@ -152,7 +152,7 @@ are_scopes : (es : List Event) (ts : List Names) (scopes : List Scope) → ts �
     scopes ≡ map scope_of ts → AreScopes es scopes
 are_scopes es ts scopes e f = record {
   count = ap length f ∙ length-map ts scope_of ∙ many;
-  each = λ k a. ap (λ ss. slice_get ss k) f ∙ shown-at ts k (subst (λ n. k < n) (sym many) a) ∙
+  each = λ k a. ap (λ ss. slice_get ss k) f ∙ shown_at ts k (subst (λ n. k < n) (sym many) a) ∙
       ap (λ b. Some (scope_of (b k))) (same_names es ts e);
 }
   where

@@ -21,7 +21,7 @@ use Rattle.py_tree.specs.Canonical.{Piece, piece, pieces, begins_on, block_lexem
 use Rattle.py_tree.specs.Canonical as C
 use Rattle.py_tree.proofs.Pieces as pl
 use Rattle.py_tree.proofs.Pieces.{lexemes_arm, lexemes_arms, lexemes_clause, lexemes_clause_or, lexemes_handler, lexemes_handlers}
-use Rattle.py_tree.proofs.Lined.{lined_kind, IsLined, lined-after}
+use Rattle.py_tree.proofs.Lined.{lined_kind, IsLined, lined_after}
 use Rattle.py_parser.specs.Codes as c
 use Rattle.py_parser.specs.Words.{line_of}
 use Rattle.py_parser.specs.Grammar.{Is, Exprs}
@@ -49,10 +49,10 @@ front_kind (k.Str bs) here line F G f g = (g.0, f _ g.1)
 front_kind (k.Op n) here line F G f g = (g.0, f _ g.1)
 front_kind (k.Other o) here line F G f g = (g.0, f _ g.1)
 
-lined-front : (ts us : List Token) (n : ℕ) → IsLined n (ts ++ us) → IsLined n ts
-lined-front [] us n g = tt
-lined-front (t ∷ ts) us n g = front_kind t.kind t.line n (λ m. IsLined m (ts ++ us)) (λ m. IsLined m ts)
-    (λ m. lined-front ts us m) g
+lined_front : (ts us : List Token) (n : ℕ) → IsLined n (ts ++ us) → IsLined n ts
+lined_front [] us n g = tt
+lined_front (t ∷ ts) us n g = front_kind t.kind t.line n (λ m. IsLined m (ts ++ us)) (λ m. IsLined m ts)
+    (λ m. lined_front ts us m) g
 
 first_kind : (κ : TokenKind) (here line : ℕ) (F : ℕ → Type 0) → ((m : ℕ) → line_kept κ m ≡ m) →
     lined_kind κ here line F → line ≤ here
@@ -148,7 +148,7 @@ below_suite : (line : ℕ) {as' : List Stmt} {ts : List Token} (n : ℕ) → lin
     begins_on line (pieces as') ≡ false
 below_suite line n l (S.Suite.last_of h) g = below_statement line n l h g
 below_suite line n l (S.Suite.then {as' = as'} {bs = bs} {ts = ts} {us = us} h i) g =
-    begins_front line as' bs (statement_filled h) ∙ below_statement line n l h (lined-front ts us n g)
+    begins_front line as' bs (statement_filled h) ∙ below_statement line n l h (lined_front ts us n g)
 
 -- ---- lists of statements
 
@@ -442,22 +442,22 @@ mutual
       AllGood as' (pieces as')
   good_suite (S.Suite.last_of h) n g = good_statement h n g
   good_suite (S.Suite.then {as' = as'} {bs = bs} {ts = ts} {us = us} h i) n g =
-      add_all as' bs (good_statement h n (lined-front ts us n g)) (good_suite i n (lined-after ts us n g))
+      add_all as' bs (good_statement h n (lined_front ts us n g)) (good_suite i n (lined_after ts us n g))
 
   as_block : {as' : List Stmt} {us : List Token} → Block None as' us → (n : ℕ) → IsLined n us → (line : ℕ) → line ≤ n →
       BlockAgain line as'
   as_block (S.Block.short h) n g line l = simple_block line (line_simple h)
   as_block (S.Block.long p q r {ts = ts} h) n g line l = let m : n ≤ p.line = g.0 in
-      long_block line (good_suite h (p.line + 1) (lined-front ts (at k.Dedent r ∷ []) (p.line + 1) g.1))
+      long_block line (good_suite h (p.line + 1) (lined_front ts (at k.Dedent r ∷ []) (p.line + 1) g.1))
       (suite_filled h) (below_suite line (p.line + 1) (omega arith) h
-      (lined-front ts (at k.Dedent r ∷ []) (p.line + 1) g.1))
+      (lined_front ts (at k.Dedent r ∷ []) (p.line + 1) g.1))
 
   as_elifs : {rs : List Arm} {us : List Token} → Elifs None rs us → (n : ℕ) → IsLined n us → ElifsAgain rs
   as_elifs (S.Elifs.no_elif _) n g ts r = no_elifs (no_more r)
   as_elifs (S.Elifs.elif p q {ts = xs} {us = ys} {vs = zs} h i j) n g ts r = let b =
-      lined-after xs (at c.colon q ∷ ys) p.line (lined-front (xs ++ at c.colon q ∷ ys) zs p.line g.1) in
+      lined_after xs (at c.colon q ∷ ys) p.line (lined_front (xs ++ at c.colon q ∷ ys) zs p.line g.1) in
       elifs_of (λ us x. as_is h us x) (as_block i q.line b.1 p.line b.0)
-      (as_elifs j p.line (lined-after (xs ++ at c.colon q ∷ ys) zs p.line g.1)) (splits _ _ r)
+      (as_elifs j p.line (lined_after (xs ++ at c.colon q ∷ ys) zs p.line g.1)) (splits _ _ r)
 
   as_else : {d : Option Clause} {us : List Token} → Else None d us → (n : ℕ) → IsLined n us → ElseAgain d
   as_else (S.Else.no_else _) n g ts r = no_else_of (no_more r)
@@ -470,70 +470,70 @@ mutual
 
   as_excepts : {hs : List Handler} {us : List Token} → Excepts None hs us → (n : ℕ) → IsLined n us → ExceptsAgain hs
   as_excepts (S.Excepts.except_one p q {a = a} {b = b} {ts = xs} {us = ys} h i) n g ts r = let d =
-      lined-after xs (at c.colon q ∷ ys) p.line g.1 in
+      lined_after xs (at c.colon q ∷ ys) p.line g.1 in
       except_one_of (λ us x. as_caught h us x)
       (clause_of c.except_ p.line (expr_or a ++ led_or c.as_ b) (as_block i q.line d.1 p.line d.0) (only _ r))
   as_excepts (S.Excepts.except_more p q {ts = xs} {us = ys} {vs = zs} h i j) n g ts r = let d =
-      lined-after xs (at c.colon q ∷ ys) p.line (lined-front (xs ++ at c.colon q ∷ ys) zs p.line g.1) in
+      lined_after xs (at c.colon q ∷ ys) p.line (lined_front (xs ++ at c.colon q ∷ ys) zs p.line g.1) in
       excepts_of (λ us x. as_caught h us x) (as_block i q.line d.1 p.line d.0)
-      (as_excepts j p.line (lined-after (xs ++ at c.colon q ∷ ys) zs p.line g.1)) (splits _ _ r)
+      (as_excepts j p.line (lined_after (xs ++ at c.colon q ∷ ys) zs p.line g.1)) (splits _ _ r)
 
   as_compound : {a : Stmt} {us : List Token} → Compound None a us → (n : ℕ) → IsLined n us → Compoundly a
   as_compound (S.Compound.if' p q {a = a} {as' = as'} {rs = rs} {d = d} {ts = xs} {us = ys} {vs = zs} {ws = os} h i j
       l) n g =
-      let b = lined-front (xs ++ at c.colon q ∷ ys ++ zs) os p.line g.1 in
-      let e = lined-after xs (at c.colon q ∷ ys) p.line (lined-front (xs ++ at c.colon q ∷ ys) zs p.line b) in
+      let b = lined_front (xs ++ at c.colon q ∷ ys ++ zs) os p.line g.1 in
+      let e = lined_after xs (at c.colon q ∷ ys) p.line (lined_front (xs ++ at c.colon q ∷ ys) zs p.line b) in
       record {
         lexemes = _;
         is = pl.piece_if (record { line = p.line; test = a; body = as' } ∷ rs) d;
         again =
             if_of p.line a as' rs d (λ us x. as_is h us x) (as_block i q.line e.1 p.line e.0)
-            (as_elifs j p.line (lined-after (xs ++ at c.colon q ∷ ys) zs p.line b))
-            (as_else l p.line (lined-after (xs ++ at c.colon q ∷ ys ++ zs) os p.line g.1));
+            (as_elifs j p.line (lined_after (xs ++ at c.colon q ∷ ys) zs p.line b))
+            (as_else l p.line (lined_after (xs ++ at c.colon q ∷ ys ++ zs) os p.line g.1));
       }
   as_compound (S.Compound.while p q {a = a} {as' = as'} {d = d} {ts = xs} {us = ys} {vs = zs} h i j) n g =
-      let e = lined-after xs (at c.colon q ∷ ys) p.line (lined-front (xs ++ at c.colon q ∷ ys) zs p.line g.1) in
+      let e = lined_after xs (at c.colon q ∷ ys) p.line (lined_front (xs ++ at c.colon q ∷ ys) zs p.line g.1) in
       record {
         lexemes = _;
         is = pl.piece_while (record { line = p.line; test = a; body = as' }) d;
         again =
             while_of p.line a as' d (λ us x. as_is h us x) (as_block i q.line e.1 p.line e.0)
-            (as_else j p.line (lined-after (xs ++ at c.colon q ∷ ys) zs p.line g.1));
+            (as_else j p.line (lined_after (xs ++ at c.colon q ∷ ys) zs p.line g.1));
       }
   as_compound (S.Compound.for' p q r {a = a} {b = b} {as' = as'} {d = d} {ts = xs} {us = ys} {vs = zs} {ws = os} h i j
       l) n g =
-      let e = lined-after (xs ++ at c.in_ q ∷ ys) (at c.colon r ∷ zs) p.line
-      (lined-front (xs ++ at c.in_ q ∷ ys ++ at c.colon r ∷ zs) os p.line g.1) in
+      let e = lined_after (xs ++ at c.in_ q ∷ ys) (at c.colon r ∷ zs) p.line
+      (lined_front (xs ++ at c.in_ q ∷ ys ++ at c.colon r ∷ zs) os p.line g.1) in
       record {
         lexemes = _;
         is = pl.piece_for p.line a b as' d;
         again =
             for_of p.line a b as' d (λ us x. as_loops h us x) (λ us x. as_exprs i us x)
             (as_block j r.line e.1 p.line e.0)
-            (as_else l p.line (lined-after (xs ++ at c.in_ q ∷ ys ++ at c.colon r ∷ zs) os p.line g.1));
+            (as_else l p.line (lined_after (xs ++ at c.in_ q ∷ ys ++ at c.colon r ∷ zs) os p.line g.1));
       }
   as_compound (S.Compound.try p q {as' = as'} {hs = hs} {d = d} {f = f} {ts = xs} {us = ys} {vs = zs} {ws = os} h i j
       l) n g =
-      let b = lined-front (xs ++ ys ++ zs) os q.line g.1.1 in
-      let e = lined-front (xs ++ ys) zs q.line b in
+      let b = lined_front (xs ++ ys ++ zs) os q.line g.1.1 in
+      let e = lined_front (xs ++ ys) zs q.line b in
       record {
         lexemes = _;
         is = pl.piece_try (record { line = p.line; body = as' }) hs d f;
         again =
-            try_of p.line as' hs d f (as_block h q.line (lined-front xs ys q.line e) p.line g.1.0)
-            (as_excepts i q.line (lined-after xs ys q.line e)) (as_else j q.line (lined-after (xs ++ ys) zs q.line b))
-            (as_finally l q.line (lined-after (xs ++ ys ++ zs) os q.line g.1.1));
+            try_of p.line as' hs d f (as_block h q.line (lined_front xs ys q.line e) p.line g.1.0)
+            (as_excepts i q.line (lined_after xs ys q.line e)) (as_else j q.line (lined_after (xs ++ ys) zs q.line b))
+            (as_finally l q.line (lined_after (xs ++ ys ++ zs) os q.line g.1.1));
       }
   as_compound (S.Compound.try_finally p q {as' = as'} {f = f} {ts = xs} {us = ys} h i) n g =
       record {
         lexemes = _;
         is = pl.piece_try (record { line = p.line; body = as' }) [] None (Some f);
         again =
-            try_finally_of p.line as' f (as_block h q.line (lined-front xs ys q.line g.1.1) p.line g.1.0)
-            (as_finally i q.line (lined-after xs ys q.line g.1.1));
+            try_finally_of p.line as' f (as_block h q.line (lined_front xs ys q.line g.1.1) p.line g.1.0)
+            (as_finally i q.line (lined_after xs ys q.line g.1.1));
       }
   as_compound (S.Compound.def m p q r r' q' {ps = ps} {as' = as'} {ts = xs} {us = ys} h i) n g =
-      let e = lined-after xs (at c.close_round r' ∷ at c.colon q' ∷ ys) r.line g.1.1.1 in
+      let e = lined_after xs (at c.close_round r' ∷ at c.colon q' ∷ ys) r.line g.1.1.1 in
       let l : p.line ≤ q.line = g.1.0 in let o : q.line ≤ r.line = g.1.1.0 in let t : r.line ≤ r'.line = e.0 in
       let w : r'.line ≤ q'.line = e.1.0 in
       record {
@@ -543,7 +543,7 @@ mutual
             def_of p.line m ps as' (λ us x. as_params h us x) (as_block i q'.line e.1.1 p.line (omega arith));
       }
   as_compound (S.Compound.class m p q r {a = a} {as' = as'} {ts = xs} {us = ys} h i) n g =
-      let e = lined-after xs (at c.colon r ∷ ys) q.line g.1.1 in
+      let e = lined_after xs (at c.colon r ∷ ys) q.line g.1.1 in
       let l : p.line ≤ q.line = g.1.0 in let o : q.line ≤ r.line = e.0 in
       record {
         lexemes = _;
@@ -556,7 +556,7 @@ good_body : {as' : List Stmt} {us : List Token} → Body None as' us → (n : �
 good_body (S.Body.end _ p) n g = AllGood.nil
 good_body (S.Body.newline p h) n g = good_body h (p.line + 1) g.1
 good_body (S.Body.more {as' = as'} {bs = bs} {ts = ts} {us = us} h i) n g =
-    add_all as' bs (good_statement h n (lined-front ts us n g)) (good_body i n (lined-after ts us n g))
+    add_all as' bs (good_statement h n (lined_front ts us n g)) (good_body i n (lined_after ts us n g))
 
 -- Tokens with a module's canonical lexemes spell this module.
 pub canonical : (m : Module) (us : List Token) → IsLined 1 us → IsModule m us → (ts : List Token) →

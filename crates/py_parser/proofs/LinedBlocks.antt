@@ -27,7 +27,7 @@ use Rattle.py_parser.specs.Words.{line_of}
 use Rattle.py_parser.specs.Statements as S
 use Rattle.py_parser.specs.Statements.{Line, Parameter, Parameters, Params, Base, Caught, Statement, Suite, Block, Elifs, Else, Finally, Excepts, Compound, Body, IsModule}
 use Rattle.py_parser.specs.Grammar.{Marks}
-use Rattle.py_tree.proofs.Lined.{IsLined, AllKept, lined-le, lined-tail, lined-after, kept-front, kept-after}
+use Rattle.py_tree.proofs.Lined.{IsLined, AllKept, lined_le, lined_tail, lined_after, kept_front, kept_after}
 use Rattle.py_tree.proofs.LinedKinds.{Bytes}
 use Rattle.py_tree.proofs.LinedText.{lined_text, kept_text}
 use Rattle.py_parser.proofs.LinedWords.{Even, Phrase, Evens, even_nil, even_cons, even2, phrase_cons, phrase_round, even_commas, phrase_Is, phrase_Exprs, even_Maybe}
@@ -45,9 +45,9 @@ even_Parameter (S.Parameter.default n _ _ h) a =
 evens_Parameters : {x : Marks} {b : Bool} {ps : List Param} {ts : List Token} → Parameters x b ps ts → AllKept ts →
     Evens (map param_words ps)
 evens_Parameters (S.Parameters.one _ _ _ h) a = (even_Parameter h a, tt)
-evens_Parameters (S.Parameters.one_comma _ _ _ {ts = ts} _ h) a = (even_Parameter h (kept-front ts _ a), tt)
+evens_Parameters (S.Parameters.one_comma _ _ _ {ts = ts} _ h) a = (even_Parameter h (kept_front ts _ a), tt)
 evens_Parameters (S.Parameters.more _ _ _ {ts = ts} _ h g) a =
-    (even_Parameter h (kept-front ts _ a), evens_Parameters g (kept-after ts _ a).1)
+    (even_Parameter h (kept_front ts _ a), evens_Parameters g (kept_after ts _ a).1)
 evens_Parameters (S.Parameters.starred _ _) a = tt
 evens_Parameters (S.Parameters.double_starred _ _) a = tt
 evens_Parameters (S.Parameters.tuple _ _) a = tt
@@ -63,8 +63,8 @@ even_round_or (Some b) e = (phrase_round e).even
 
 even_Base : {x : Marks} {a : Option Expr} {ts : List Token} → Base x a ts → AllKept ts → Even (base_words a)
 even_Base (S.Base.none _) a = even_nil
-even_Base (S.Base.round _ _ {a = b} {ts = ts} h) a = even_round_or b (even_Maybe h (kept-front ts _ a.1))
-even_Base (S.Base.bases _ _ {ts = ts} h) a = (phrase_round (phrase_Is h (kept-front ts _ a.1)).even).even
+even_Base (S.Base.round _ _ {a = b} {ts = ts} h) a = even_round_or b (even_Maybe h (kept_front ts _ a.1))
+even_Base (S.Base.bases _ _ {ts = ts} h) a = (phrase_round (phrase_Is h (kept_front ts _ a.1)).even).even
 
 even_as_word : {ws : Words} → Phrase ws → Even (k.Keyword keyword.AS ∷ ws)
 even_as_word p = even_cons (k.Keyword keyword.AS) refl (λ m. refl) p.even
@@ -74,9 +74,9 @@ even_Caught : {x : Marks} {a b : Option Expr} {ts : List Token} → Caught x a b
 even_Caught (S.Caught.all _) a = even_nil
 even_Caught (S.Caught.test h) a = even2 (phrase_Is h a).even even_nil
 even_Caught (S.Caught.named _ {ts = ts} h g) a =
-    even2 (phrase_Is h (kept-front ts _ a)).even (even_as_word (phrase_Target g (kept-after ts _ a).1))
+    even2 (phrase_Is h (kept_front ts _ a)).even (even_as_word (phrase_Target g (kept_after ts _ a).1))
 even_Caught (S.Caught.comma _ {ts = ts} h g) a =
-    even2 (phrase_Is h (kept-front ts _ a)).even (even_as_word (phrase_Target g (kept-after ts _ a).1))
+    even2 (phrase_Is h (kept_front ts _ a)).even (even_as_word (phrase_Target g (kept_after ts _ a).1))
 
 -- ---- what may follow
 
@@ -219,7 +219,7 @@ suite_not_before (S.Suite.last_of {as' = as'} h) keep c le =
     subst (NotBefore c) (append-nil (pieces as')) (statement_not_before h keep [] c le)
 suite_not_before (S.Suite.then {as' = as'} {bs = bs} {ts = ts} {us = us} h g) keep c le =
     subst (NotBefore c) (pieces_append as' bs)
-    (statement_not_before h (kept-front ts us keep) (pieces bs) c
+    (statement_not_before h (kept_front ts us keep) (pieces bs) c
     (subst (λ m. c ≤ m) (line_append ts us (starts_Statement h)) le))
 
 of_compound : (p : Piece) (ls : List Lexeme) (qs : List Piece) (tail : List Lexeme) (j depth : ℕ) (s : Stand) →
@@ -231,8 +231,8 @@ of_compound p ls qs tail j depth s e r = subst (λ z. IsLaid j depth s (in_order
 -- tokens after a clause's head
 block_lined : (ts : List Token) (t : Token) (us more : List Token) (a : ℕ) → IsLined a ((ts ++ t ∷ us) ++ more) →
     IsLined a (us ++ more)
-block_lined ts t us more a g = lined-tail t (us ++ more) a
-    (lined-after ts (t ∷ us ++ more) a (subst (IsLined a) (append_assoc ts (t ∷ us) more) g))
+block_lined ts t us more a g = lined_tail t (us ++ more) a
+    (lined_after ts (t ∷ us ++ more) a (subst (IsLined a) (append_assoc ts (t ∷ us) more) g))
 
 lined_out : (ts us more : List Token) (a : ℕ) → IsLined a ((ts ++ us) ++ more) → IsLined a (ts ++ (us ++ more))
 lined_out ts us more a g = subst (IsLined a) (append_assoc ts us more) g
@@ -253,7 +253,7 @@ mutual
       ((c : ℕ) → IsLined c more → Ready depth c rest) → IsLaid l depth (Within 0) (block_lexemes l (pieces ss) ++ rest)
   block_laid (S.Block.short h) keep l depth rest more g f = short_block h keep l depth rest more g f
   block_laid (S.Block.long p q r {as' = ss} {ts = ts} h) keep l depth rest more g f =
-      let kept = kept-front ts (at k.Dedent r ∷ []) keep.1.1 in
+      let kept = kept_front ts (at k.Dedent r ∷ []) keep.1.1 in
       let low : l ≤ p.line = g.0 in
       let tokens = lined_out ts (at k.Dedent r ∷ []) more (p.line + 1) g.1 in
       let two = lined_start ts (at k.Dedent r ∷ more) (p.line + 1) (starts_Suite h) tokens in
@@ -275,9 +275,9 @@ mutual
       (statement_laid h keep [] tail more a depth g (λ c m. (tt, f c m)) j s b le)
   suite_laid (S.Suite.then {as' = ss} {bs = rs} {ts = ts} {us = us} h hs) keep tail more a depth g f j s b le =
       let first = starts_Statement h in
-      let kept = kept-after ts us keep in
+      let kept = kept_after ts us keep in
       subst (λ z. IsLaid j depth s (in_order false z ++ tail)) (pieces_append ss rs)
-      (statement_laid h (kept-front ts us keep) (pieces rs) tail (us ++ more) a depth (lined_out ts us more a g)
+      (statement_laid h (kept_front ts us keep) (pieces rs) tail (us ++ more) a depth (lined_out ts us more a g)
       (λ c m. let low = (lined_start us more c (starts_Suite hs) m).0 in (
         suite_not_before hs kept c low,
         λ i t h may. suite_laid hs kept tail more c depth m f i t (close_brackets t may)
@@ -300,17 +300,17 @@ mutual
   elifs_laid (S.Elifs.no_elif _) keep a depth rest more g f = f a g
   elifs_laid (S.Elifs.elif p q {a = e} {as' = ss} {rs = rs} {ts = ts} {us = us} {vs = vs} h b r) keep a depth rest more
       g f = λ j s le m.
-      let one = kept-front (ts ++ at code.colon q ∷ us) vs keep.1 in
+      let one = kept_front (ts ++ at code.colon q ∷ us) vs keep.1 in
       subst (IsLaid j depth s) (sym (append_assoc (clause_words (k.Keyword keyword.ELIF ∷ words e) p.line ss)
       (lexemes_arms (k.Keyword keyword.ELIF) rs) rest))
       (clause_laid (k.Keyword keyword.ELIF ∷ words e) p.line j depth s (block_lexemes p.line (pieces ss))
       (lexemes_arms (k.Keyword keyword.ELIF) rs ++ rest)
-      (keyword_phrase keyword.ELIF refl (phrase_Is h (kept-front ts _ one)).even) (close_brackets s m)
+      (keyword_phrase keyword.ELIF refl (phrase_Is h (kept_front ts _ one)).even) (close_brackets s m)
       (le2 j a p.line le g.0)
-      (block_laid b (kept-after ts _ one).1 p.line depth (lexemes_arms (k.Keyword keyword.ELIF) rs ++ rest)
+      (block_laid b (kept_after ts _ one).1 p.line depth (lexemes_arms (k.Keyword keyword.ELIF) rs ++ rest)
       (vs ++ more) (block_lined ts (at code.colon q) us (vs ++ more) p.line
       (lined_out (ts ++ at code.colon q ∷ us) vs more p.line g.1))
-      (λ c m. elifs_laid r (kept-after (ts ++ at code.colon q ∷ us) vs keep.1) c depth rest more m f)))
+      (λ c m. elifs_laid r (kept_after (ts ++ at code.colon q ∷ us) vs keep.1) c depth rest more m f)))
 
   else_laid : {d : Option Clause} {ts : List Token} → Else None d ts → AllKept ts →
       (a depth : ℕ) (rest : List Lexeme) (more : List Token) → IsLined a (ts ++ more) →
@@ -340,22 +340,22 @@ mutual
       let ws = k.Keyword keyword.EXCEPT ∷ expr_or e ++ led_or (k.Keyword keyword.AS) t in
       subst (IsLaid j depth s) (sym (append_assoc (clause_words ws p.line ss) [] rest))
       (clause_laid ws p.line j depth s (block_lexemes p.line (pieces ss)) rest
-      (keyword_phrase keyword.EXCEPT refl (even_Caught h (kept-front ts _ keep.1))) (close_brackets s m)
+      (keyword_phrase keyword.EXCEPT refl (even_Caught h (kept_front ts _ keep.1))) (close_brackets s m)
       (le2 j a p.line le g.0)
-      (block_laid b (kept-after ts _ keep.1).1 p.line depth rest more
+      (block_laid b (kept_after ts _ keep.1).1 p.line depth rest more
       (block_lined ts (at code.colon q) us more p.line g.1) f))
   excepts_laid (S.Excepts.except_more p q {a = e} {b = t} {as' = ss} {hs = hs} {ts = ts} {us = us} {vs = vs} h b r)
       keep a depth rest more g f = λ j s le m.
       let ws = k.Keyword keyword.EXCEPT ∷ expr_or (Some e) ++ led_or (k.Keyword keyword.AS) t in
-      let one = kept-front (ts ++ at code.colon q ∷ us) vs keep.1 in
+      let one = kept_front (ts ++ at code.colon q ∷ us) vs keep.1 in
       subst (IsLaid j depth s) (sym (append_assoc (clause_words ws p.line ss) (lexemes_handlers hs) rest))
       (clause_laid ws p.line j depth s (block_lexemes p.line (pieces ss)) (lexemes_handlers hs ++ rest)
-      (keyword_phrase keyword.EXCEPT refl (even_Caught h (kept-front ts _ one))) (close_brackets s m)
+      (keyword_phrase keyword.EXCEPT refl (even_Caught h (kept_front ts _ one))) (close_brackets s m)
       (le2 j a p.line le g.0)
-      (block_laid b (kept-after ts _ one).1 p.line depth (lexemes_handlers hs ++ rest) (vs ++ more)
+      (block_laid b (kept_after ts _ one).1 p.line depth (lexemes_handlers hs ++ rest) (vs ++ more)
       (block_lined ts (at code.colon q) us (vs ++ more) p.line
       (lined_out (ts ++ at code.colon q ∷ us) vs more p.line g.1))
-      (λ c m. excepts_laid r (kept-after (ts ++ at code.colon q ∷ us) vs keep.1) c depth rest more m f)))
+      (λ c m. excepts_laid r (kept_after (ts ++ at code.colon q ∷ us) vs keep.1) c depth rest more m f)))
 
   compound_laid : {a : Stmt} {ts : List Token} → Compound None a ts → AllKept ts →
       (qs : List Piece) (tail : List Lexeme) (more : List Token) (a' depth : ℕ) → IsLined a' (ts ++ more) →
@@ -366,8 +366,8 @@ mutual
       let rest = in_order false qs ++ tail in
       let elses = lexemes_clause_or (k.Keyword keyword.ELSE) d in
       let arms = lexemes_arms (k.Keyword keyword.ELIF) rs in
-      let one = kept-front ((ts ++ at code.colon q ∷ us) ++ vs) ws keep.1 in
-      let two = kept-front (ts ++ at code.colon q ∷ us) vs one in
+      let one = kept_front ((ts ++ at code.colon q ∷ us) ++ vs) ws keep.1 in
+      let two = kept_front (ts ++ at code.colon q ∷ us) vs one in
       let tokens = lined_out (ts ++ at code.colon q ∷ us) vs (ws ++ more) p.line
       (lined_out ((ts ++ at code.colon q ∷ us) ++ vs) ws more p.line g.1) in
       of_compound _ _ qs tail j depth s (piece_if (record { line = p.line; test = e; body = ss } ∷ rs) d)
@@ -375,42 +375,42 @@ mutual
       rest))
       (clause_laid (k.Keyword keyword.IF ∷ words e) p.line j depth s (block_lexemes p.line (pieces ss))
       (arms ++ (elses ++ rest))
-      (keyword_phrase keyword.IF refl (phrase_Is h (kept-front ts _ two)).even) br le
-      (block_laid b (kept-after ts _ two).1 p.line depth (arms ++ (elses ++ rest)) (vs ++ (ws ++ more))
+      (keyword_phrase keyword.IF refl (phrase_Is h (kept_front ts _ two)).even) br le
+      (block_laid b (kept_after ts _ two).1 p.line depth (arms ++ (elses ++ rest)) (vs ++ (ws ++ more))
       (block_lined ts (at code.colon q) us (vs ++ (ws ++ more)) p.line tokens)
-      (λ c m. elifs_laid r (kept-after (ts ++ at code.colon q ∷ us) vs one) c depth (elses ++ rest) (ws ++ more) m
-      (λ c m. else_laid l (kept-after ((ts ++ at code.colon q ∷ us) ++ vs) ws keep.1) c depth rest more m f)))))
+      (λ c m. elifs_laid r (kept_after (ts ++ at code.colon q ∷ us) vs one) c depth (elses ++ rest) (ws ++ more) m
+      (λ c m. else_laid l (kept_after ((ts ++ at code.colon q ∷ us) ++ vs) ws keep.1) c depth rest more m f)))))
   compound_laid (S.Compound.while p q {a = e} {as' = ss} {d = d} {ts = ts} {us = us} {vs = vs} h b l) keep qs tail more
       a depth g f j s br le =
       let rest = in_order false qs ++ tail in
       let elses = lexemes_clause_or (k.Keyword keyword.ELSE) d in
-      let one = kept-front (ts ++ at code.colon q ∷ us) vs keep.1 in
+      let one = kept_front (ts ++ at code.colon q ∷ us) vs keep.1 in
       of_compound _ _ qs tail j depth s (piece_while (record { line = p.line; test = e; body = ss }) d)
       (subst (IsLaid j depth s) (sym (append_assoc (clause_words (k.Keyword keyword.WHILE ∷ words e) p.line ss) elses
       rest))
       (clause_laid (k.Keyword keyword.WHILE ∷ words e) p.line j depth s (block_lexemes p.line (pieces ss))
       (elses ++ rest)
-      (keyword_phrase keyword.WHILE refl (phrase_Is h (kept-front ts _ one)).even) br le
-      (block_laid b (kept-after ts _ one).1 p.line depth (elses ++ rest) (vs ++ more)
+      (keyword_phrase keyword.WHILE refl (phrase_Is h (kept_front ts _ one)).even) br le
+      (block_laid b (kept_after ts _ one).1 p.line depth (elses ++ rest) (vs ++ more)
       (block_lined ts (at code.colon q) us (vs ++ more) p.line
       (lined_out (ts ++ at code.colon q ∷ us) vs more p.line g.1))
-      (λ c m. else_laid l (kept-after (ts ++ at code.colon q ∷ us) vs keep.1) c depth rest more m f))))
+      (λ c m. else_laid l (kept_after (ts ++ at code.colon q ∷ us) vs keep.1) c depth rest more m f))))
   compound_laid (S.Compound.for' p q r {a = t} {b = e} {as' = ss} {d = d} {ts = ts} {us = us} {vs = vs} {ws = ws} h i b
       l) keep qs tail more a depth g f j s br le =
       let rest = in_order false qs ++ tail in
       let elses = lexemes_clause_or (k.Keyword keyword.ELSE) d in
       let head' = k.Keyword keyword.FOR ∷ words t ++ k.Keyword keyword.IN ∷ words e in
-      let one = kept-front ((ts ++ at code.in_ q ∷ us) ++ at code.colon r ∷ vs) ws keep.1 in
-      let two = kept-front (ts ++ at code.in_ q ∷ us) (at code.colon r ∷ vs) one in
+      let one = kept_front ((ts ++ at code.in_ q ∷ us) ++ at code.colon r ∷ vs) ws keep.1 in
+      let two = kept_front (ts ++ at code.in_ q ∷ us) (at code.colon r ∷ vs) one in
       of_compound _ _ qs tail j depth s (piece_for p.line t e ss d)
       (subst (IsLaid j depth s) (sym (append_assoc (clause_words head' p.line ss) elses rest))
       (clause_laid head' p.line j depth s (block_lexemes p.line (pieces ss)) (elses ++ rest)
-      (keyword_phrase keyword.FOR refl (even2 (phrase_Loops h (kept-front ts _ two)).even
-      (even_cons (k.Keyword keyword.IN) refl (λ m. refl) (phrase_Exprs i (kept-after ts _ two).1).even))) br le
-      (block_laid b (kept-after (ts ++ at code.in_ q ∷ us) (at code.colon r ∷ vs) one).1 p.line depth (elses ++ rest)
+      (keyword_phrase keyword.FOR refl (even2 (phrase_Loops h (kept_front ts _ two)).even
+      (even_cons (k.Keyword keyword.IN) refl (λ m. refl) (phrase_Exprs i (kept_after ts _ two).1).even))) br le
+      (block_laid b (kept_after (ts ++ at code.in_ q ∷ us) (at code.colon r ∷ vs) one).1 p.line depth (elses ++ rest)
       (ws ++ more) (block_lined (ts ++ at code.in_ q ∷ us) (at code.colon r) vs (ws ++ more) p.line
       (lined_out ((ts ++ at code.in_ q ∷ us) ++ at code.colon r ∷ vs) ws more p.line g.1))
-      (λ c m. else_laid l (kept-after ((ts ++ at code.in_ q ∷ us) ++ at code.colon r ∷ vs) ws keep.1) c depth rest more
+      (λ c m. else_laid l (kept_after ((ts ++ at code.in_ q ∷ us) ++ at code.colon r ∷ vs) ws keep.1) c depth rest more
       m f))))
   compound_laid (S.Compound.try p q {as' = ss} {hs = hs} {d = d} {f = fin} {ts = ts} {us = us} {vs = vs} {ws = ws} b x
       l y) keep qs tail more a depth g f j s br le =
@@ -419,9 +419,9 @@ mutual
       let elses = lexemes_clause_or (k.Keyword keyword.ELSE) d in
       let last = lexemes_clause_or (k.Keyword keyword.FINALLY) fin in
       let first = clause_words (k.Keyword keyword.TRY ∷ []) p.line ss in
-      let one = kept-front ((ts ++ us) ++ vs) ws keep.1.1 in
-      let two = kept-front (ts ++ us) vs one in
-      let colon = lined-tail (at code.colon q) ((((ts ++ us) ++ vs) ++ ws) ++ more) p.line g.1 in
+      let one = kept_front ((ts ++ us) ++ vs) ws keep.1.1 in
+      let two = kept_front (ts ++ us) vs one in
+      let colon = lined_tail (at code.colon q) ((((ts ++ us) ++ vs) ++ ws) ++ more) p.line g.1 in
       let tokens = lined_out ts us (vs ++ (ws ++ more)) p.line
       (lined_out (ts ++ us) vs (ws ++ more) p.line (lined_out ((ts ++ us) ++ vs) ws more p.line colon)) in
       of_compound _ _ qs tail j depth s (piece_try (record { line = p.line; body = ss }) hs d fin)
@@ -430,39 +430,39 @@ mutual
       (clause_laid (k.Keyword keyword.TRY ∷ []) p.line j depth s (block_lexemes p.line (pieces ss))
       (handlers ++ (elses ++ (last ++ rest)))
       (keyword_phrase keyword.TRY refl even_nil) br le
-      (block_laid b (kept-front ts us two) p.line depth (handlers ++ (elses ++ (last ++ rest)))
+      (block_laid b (kept_front ts us two) p.line depth (handlers ++ (elses ++ (last ++ rest)))
       (us ++ (vs ++ (ws ++ more))) tokens
-      (λ c m. excepts_laid x (kept-after ts us two) c depth (elses ++ (last ++ rest)) (vs ++ (ws ++ more)) m
-      (λ c m. else_laid l (kept-after (ts ++ us) vs one) c depth (last ++ rest) (ws ++ more) m
-      (λ c m. finally_laid y (kept-after ((ts ++ us) ++ vs) ws keep.1.1) c depth rest more m f))))))
+      (λ c m. excepts_laid x (kept_after ts us two) c depth (elses ++ (last ++ rest)) (vs ++ (ws ++ more)) m
+      (λ c m. else_laid l (kept_after (ts ++ us) vs one) c depth (last ++ rest) (ws ++ more) m
+      (λ c m. finally_laid y (kept_after ((ts ++ us) ++ vs) ws keep.1.1) c depth rest more m f))))))
   compound_laid (S.Compound.try_finally p q {as' = ss} {f = fin} {ts = ts} {us = us} b y) keep qs tail more a depth g f
       j s br le =
       let rest = in_order false qs ++ tail in
       let last = lexemes_clause_or (k.Keyword keyword.FINALLY) (Some fin) in
       let first = clause_words (k.Keyword keyword.TRY ∷ []) p.line ss in
-      let colon = lined-tail (at code.colon q) ((ts ++ us) ++ more) p.line g.1 in
+      let colon = lined_tail (at code.colon q) ((ts ++ us) ++ more) p.line g.1 in
       of_compound _ _ qs tail j depth s (piece_try (record { line = p.line; body = ss }) [] None (Some fin))
       (subst (IsLaid j depth s) (sym (append_assoc ((first ++ []) ++ []) last rest ∙
       regroup first [] [] (last ++ rest)))
       (clause_laid (k.Keyword keyword.TRY ∷ []) p.line j depth s (block_lexemes p.line (pieces ss)) (last ++ rest)
       (keyword_phrase keyword.TRY refl even_nil) br le
-      (block_laid b (kept-front ts us keep.1.1) p.line depth (last ++ rest) (us ++ more)
+      (block_laid b (kept_front ts us keep.1.1) p.line depth (last ++ rest) (us ++ more)
       (lined_out ts us more p.line colon)
-      (λ c m. finally_laid y (kept-after ts us keep.1.1) c depth rest more m f))))
+      (λ c m. finally_laid y (kept_after ts us keep.1.1) c depth rest more m f))))
   compound_laid (S.Compound.def m p q r r' q' {ps = ps} {as' = ss} {ts = ts} {us = us} h b) keep qs tail more a depth g
       f j s br le =
       let rest = in_order false qs ++ tail in
       let kept = keep.1.1.1 in
       let rest-tokens = (ts ++ at code.close_round r' ∷ at code.colon q' ∷ us) ++ more in
-      let inner = lined-tail (at code.open_round r) rest-tokens p.line
-      (lined-tail (at (k.Name m) q) (at code.open_round r ∷ rest-tokens) p.line g.1) in
+      let inner = lined_tail (at code.open_round r) rest-tokens p.line
+      (lined_tail (at (k.Name m) q) (at code.open_round r ∷ rest-tokens) p.line g.1) in
       of_compound _ _ qs tail j depth s (piece_def p.line m ps ss)
       (clause_laid (k.Keyword keyword.DEF ∷ k.Name m ∷ round (commas (map param_words ps))) p.line j depth s
       (block_lexemes p.line (pieces ss)) rest
       (keyword_phrase keyword.DEF refl (even_cons (k.Name m) keep.1.0 (λ n. refl)
-      (phrase_round (even_commas (map param_words ps) (evens_Params h (kept-front ts _ kept)))).even)) br le
-      (block_laid b (kept-after ts _ kept).1.1 p.line depth rest more
-      (lined-tail (at code.colon q') (us ++ more) p.line
+      (phrase_round (even_commas (map param_words ps) (evens_Params h (kept_front ts _ kept)))).even)) br le
+      (block_laid b (kept_after ts _ kept).1.1 p.line depth rest more
+      (lined_tail (at code.colon q') (us ++ more) p.line
       (block_lined ts (at code.close_round r') (at code.colon q' ∷ us) more p.line inner)) f))
   compound_laid (S.Compound.class m p q r {a = t} {as' = ss} {ts = ts} {us = us} h b) keep qs tail more a depth g f j s
       br le =
@@ -472,10 +472,10 @@ mutual
       (clause_laid (k.Keyword keyword.CLASS ∷ k.Name m ∷ base_words t) p.line j depth s
       (block_lexemes p.line (pieces ss)) rest
       (keyword_phrase keyword.CLASS refl
-      (even_cons (k.Name m) keep.1.0 (λ n. refl) (even_Base h (kept-front ts _ kept)))) br le
-      (block_laid b (kept-after ts _ kept).1 p.line depth rest more
+      (even_cons (k.Name m) keep.1.0 (λ n. refl) (even_Base h (kept_front ts _ kept)))) br le
+      (block_laid b (kept_after ts _ kept).1 p.line depth rest more
       (block_lined ts (at code.colon r) us more p.line
-      (lined-tail (at (k.Name m) q) ((ts ++ at code.colon r ∷ us) ++ more) p.line g.1)) f))
+      (lined_tail (at (k.Name m) q) ((ts ++ at code.colon r ∷ us) ++ more) p.line g.1)) f))
 
 -- ---- modules
 
@@ -483,14 +483,14 @@ body_laid : {ss : List Stmt} {ts : List Token} → Body None ss ts → AllKept t
     Follow a 0 (pieces ss) (lexeme k.End 0 ∷ [])
 body_laid (S.Body.end _ p) keep a g = (tt, λ j s le m. (m, refl, refl, refl))
 body_laid (S.Body.newline p {ts = ts} h) keep a g = let low : a ≤ p.line = g.0 in let up : a ≤ p.line + 1 =
-    omega arith in body_laid h keep.1 a (lined-le ts a (p.line + 1) up g.1)
+    omega arith in body_laid h keep.1 a (lined_le ts a (p.line + 1) up g.1)
 body_laid (S.Body.more {as' = ss} {bs = rs} {ts = ts} {us = us} h hs) keep a g =
     let low = (lined_start ts us a (starts_Statement h) g).0 in
-    let kept = kept-front ts us keep in (
+    let kept = kept_front ts us keep in (
       subst (NotBefore a) (pieces_append ss rs) (statement_not_before h kept (pieces rs) a low),
       λ j s le m. subst (λ z. IsLaid j 0 s (in_order false z ++ lexeme k.End 0 ∷ [])) (pieces_append ss rs)
           (statement_laid h kept (pieces rs) (lexeme k.End 0 ∷ []) us a 0 g
-          (λ c m. body_laid hs (kept-after ts us keep) c m) j s (close_brackets s m) (le2 j a (line_of ts) le low)),
+          (λ c m. body_laid hs (kept_after ts us keep) c m) j s (close_brackets s m) (le2 j a (line_of ts) le low)),
     )
 
 -- the lexemes of a text's module are laid out

@@ -16,7 +16,7 @@ use Rattle.py_parser.specs.Words.{line_of}
 use Rattle.py_parser.specs.Statements as S
 use Rattle.py_parser.specs.Statements.{Line}
 use Rattle.py_parser.specs.Grammar.{Marks}
-use Rattle.py_tree.proofs.Lined.{IsLined, AllKept, kept-front, kept-after}
+use Rattle.py_tree.proofs.Lined.{IsLined, AllKept, kept_front, kept_after}
 use Rattle.py_parser.proofs.LinedWords.{AllWords, after_words, is_some, Phrase, even_nil, even_cons, phrase2}
 use Rattle.py_parser.proofs.LinedSimple.{Starts, starts_append, line_append, lined_start, starts_Simple, IsSimple, simple_is}
 
@@ -37,10 +37,10 @@ le_stands (k.Str bs) at a b depth s rest last h f g = (let q : b ≤ at = g.0 in
 le_stands (k.Op n) at a b depth s rest last h f g = (let q : b ≤ at = g.0 in omega arith, g.1, g.2)
 le_stands (k.Other o) at a b depth s rest last h f g = g
 
-laid-le : (ls : List Lexeme) (a b depth : ℕ) (s : Stand) → a ≤ b → IsLaid b depth s ls → IsLaid a depth s ls
-laid-le [] a b depth s h g = g
-laid-le (l ∷ ls) a b depth s h g = le_stands l.kind l.line a b depth s (λ n d t. IsLaid n d t ls) (ls ≡ []) h
-    (λ c d e t. laid-le ls c d e t) g
+laid_le : (ls : List Lexeme) (a b depth : ℕ) (s : Stand) → a ≤ b → IsLaid b depth s ls → IsLaid a depth s ls
+laid_le [] a b depth s h g = g
+laid_le (l ∷ ls) a b depth s h g = le_stands l.kind l.line a b depth s (λ n d t. IsLaid n d t ls) (ls ≡ []) h
+    (λ c d e t. laid_le ls c d e t) g
 
 stands_word : (w : TokenKind) (at line depth : ℕ) (s : Stand) (rest : ℕ → ℕ → Stand → Type 0) (last : Type 0) →
     IsWord w → line ≤ at → rest at depth (Within (after_word w (brackets s))) → Stands w at line depth s rest last
@@ -57,7 +57,7 @@ stands_word (k.Other o) at line depth s rest last i h r = absurd i
 
 on_laid : (ws : Words) (line j depth m : ℕ) (rest : List Lexeme) → AllWords ws → j ≤ line →
     IsLaid line depth (Within (after_words m ws)) rest → IsLaid j depth (Within m) (on line ws ++ rest)
-on_laid [] line j depth m rest are h r = laid-le rest j line depth (Within m) h r
+on_laid [] line j depth m rest are h r = laid_le rest j line depth (Within m) h r
 on_laid (w ∷ ws) line j depth m rest are h r =
     let same : line ≤ line = omega arith in
     stands_word w line j depth (Within m) (λ a d t. IsLaid a d t (on line ws ++ rest)) _ are.0 h
@@ -154,11 +154,11 @@ begins_simple {a = a} as' {line = line} line' e i =
 
 pub line_begins : {x : Marks} {as' : List Stmt} {ts : List Token} → Line x as' ts → AllKept ts → Begins as' (line_of ts)
 line_begins (S.Line.end _ {ts = ts} h) a =
-    begins_simple [] (line_of (ts ++ _ ∷ [])) (line_append ts _ (starts_Simple h)) (simple_is h (kept-front ts _ a))
+    begins_simple [] (line_of (ts ++ _ ∷ [])) (line_append ts _ (starts_Simple h)) (simple_is h (kept_front ts _ a))
 line_begins (S.Line.end_semicolon _ _ {ts = ts} h) a =
-    begins_simple [] (line_of (ts ++ _ ∷ _ ∷ [])) (line_append ts _ (starts_Simple h)) (simple_is h (kept-front ts _ a))
+    begins_simple [] (line_of (ts ++ _ ∷ _ ∷ [])) (line_append ts _ (starts_Simple h)) (simple_is h (kept_front ts _ a))
 line_begins (S.Line.more _ {as' = bs} {ts = ts} {us = us} h _) a =
-    begins_simple bs (line_of (ts ++ _ ∷ us)) (line_append ts _ (starts_Simple h)) (simple_is h (kept-front ts _ a))
+    begins_simple bs (line_of (ts ++ _ ∷ us)) (line_append ts _ (starts_Simple h)) (simple_is h (kept_front ts _ a))
 
 -- what may follow simple statements: lines end before it, and it is laid out from any line up to c
 abbrev pub After : Bool → ℕ → ℕ → List Piece → List Lexeme → Type 0
@@ -183,7 +183,7 @@ line_laid (S.Line.end p {a = st} {ts = ts} h) keep short qs tail us a depth g f 
     let two = lined_start ts (_ ∷ us) a first (subst (IsLined a) (append_assoc ts (_ ∷ []) us) g) in
     let up : line_of ts ≤ p.line = two.1.0 in
     let lt : line_of ts < p.line + 1 = omega arith in
-    end_laid short st (line_of ts) (p.line + 1) qs tail j depth s (simple_is h (kept-front ts _ keep)) lt
+    end_laid short st (line_of ts) (p.line + 1) qs tail j depth s (simple_is h (kept_front ts _ keep)) lt
     (f (p.line + 1) two.1.1) b (subst (λ m. j ≤ m) (line_append ts _ first) le)
 line_laid (S.Line.end_semicolon p q {a = st} {ts = ts} h) keep short qs tail us a depth g f j s b le =
     let first = starts_Simple h in
@@ -191,7 +191,7 @@ line_laid (S.Line.end_semicolon p q {a = st} {ts = ts} h) keep short qs tail us 
     let up : line_of ts ≤ p.line = two.1.0 in
     let next : p.line ≤ q.line = two.1.1.0 in
     let lt : line_of ts < q.line + 1 = omega arith in
-    end_laid short st (line_of ts) (q.line + 1) qs tail j depth s (simple_is h (kept-front ts _ keep)) lt
+    end_laid short st (line_of ts) (q.line + 1) qs tail j depth s (simple_is h (kept_front ts _ keep)) lt
     (f (q.line + 1) two.1.1.1) b (subst (λ m. j ≤ m) (line_append ts _ first) le)
 line_laid (S.Line.more p {a = st} {as' = bs} {ts = ts} {us = vs} h hs) keep short qs tail us a depth g f j s b le =
     let first = starts_Simple h in
@@ -200,8 +200,8 @@ line_laid (S.Line.more p {a = st} {as' = bs} {ts = ts} {us = vs} h hs) keep shor
     let next = lined_start vs us p.line (starts_Line hs) two.1.1 in
     let over : p.line ≤ line_of vs = next.0 in
     let rise : line_of ts ≤ line_of vs = omega arith in
-    let kept = (kept-after ts _ keep).1 in
-    let i = simple_is h (kept-front ts _ keep) in
+    let kept = (kept_after ts _ keep).1 in
+    let i = simple_is h (kept_front ts _ keep) in
     let begin = line_begins hs kept in
     subst (λ z. IsLaid j depth s (in_order short (z ∷ (pieces bs ++ qs)) ++ tail)) (sym i.is)
     (next_laid short (line_of ts) (line_of vs) i.words (pieces bs ++ qs) tail j depth s i.good b

@@ -25,7 +25,7 @@ use Rattle.py_parser.specs.Grammar as G
 use Rattle.py_parser.specs.Grammar.{Marks, Is, Strings, Exprs, Commas}
 use Rattle.py_parser.specs.Statements as S
 use Rattle.py_parser.specs.Statements.{Target, Targets, Loops, Equals, Names, Renamed, Imports, Simple}
-use Rattle.py_tree.proofs.Lined.{lined_kind, IsLined, lined-after, AllKept, kept-front, kept-after}
+use Rattle.py_tree.proofs.Lined.{lined_kind, IsLined, lined_after, AllKept, kept_front, kept_after}
 use Rattle.py_parser.proofs.LinedWords.{Even, Phrase, is_some, even_nil, even_cons, even2, phrase_cons, phrase2, phrase_as, phrase_round, Evens, even_commas, even_tuple, phrase_Is, phrase_Exprs, evens_Tests}
 
 -- ---- the first token
@@ -61,7 +61,7 @@ pub lined_start : (ts us : List Token) (a : ℕ) → Starts ts → IsLined a (ts
     (a ≤ line_of ts) × IsLined (line_of ts) us
 lined_start [] us a h g = absurd h
 lined_start (t ∷ ts) us a h g = let two = lined_first t.kind t.line a (λ n. IsLined n (ts ++ us)) h g in
-    (two.0, lined-after ts us t.line two.1)
+    (two.0, lined_after ts us t.line two.1)
 
 starts_sign : (g : Sign) → IsInLine (sign_word g)
 starts_sign sign.Plus = tt
@@ -164,32 +164,32 @@ phrase_Target t a = phrase_Is t.spells a
 pub evens_Targets : {x : Marks} {es : List Expr} {ts : List Token} → Targets x es ts → AllKept ts → Evens (map words es)
 evens_Targets (S.Targets.one h) a = ((phrase_Target h a).even, tt)
 evens_Targets (S.Targets.more _ {ts = ts} h g) a =
-    ((phrase_Target h (kept-front ts _ a)).even, evens_Targets g (kept-after ts _ a).1)
+    ((phrase_Target h (kept_front ts _ a)).even, evens_Targets g (kept_after ts _ a).1)
 
 pub phrase_Loops : {x : Marks} {a : Expr} {ts : List Token} → Loops x a ts → AllKept ts → Phrase (words a)
 phrase_Loops (S.Loops.single h) a = phrase_Target h a
 phrase_Loops (S.Loops.lone _ {a = b} {ts = ts} h) a =
     phrase_as (words_tuple (b ∷ [])) (phrase_round
-    (even_tuple (map words (b ∷ [])) ((phrase_Target h (kept-front ts _ a)).even, tt)))
+    (even_tuple (map words (b ∷ [])) ((phrase_Target h (kept_front ts _ a)).even, tt)))
 phrase_Loops (S.Loops.several _ {a = b} {b = d} {es = es} {ts = ts} h g) a =
     phrase_as (words_tuple (b ∷ d ∷ es))
     (phrase_round (even_tuple (map words (b ∷ d ∷ es)) (
-      (phrase_Target h (kept-front ts _ a)).even,
-      evens_Targets g (kept-after ts _ a).1,
+      (phrase_Target h (kept_front ts _ a)).even,
+      evens_Targets g (kept_after ts _ a).1,
     )))
 phrase_Loops (S.Loops.several_comma _ _ {a = b} {b = d} {es = es} {ts = ts} {us = us} h g) a =
-    let one = kept-front (ts ++ _ ∷ us) _ a in
+    let one = kept_front (ts ++ _ ∷ us) _ a in
     phrase_as (words_tuple (b ∷ d ∷ es))
     (phrase_round (even_tuple (map words (b ∷ d ∷ es)) (
-      (phrase_Target h (kept-front ts _ one)).even,
-      evens_Targets g (kept-after ts _ one).1,
+      (phrase_Target h (kept_front ts _ one)).even,
+      evens_Targets g (kept_after ts _ one).1,
     )))
 
 phrases_Equals : {x : Marks} {es : List Expr} {b : Expr} {ts : List Token} → Equals x es b ts → AllKept ts →
     Evens (map words es) × Phrase (words b)
 phrases_Equals (S.Equals.value h) a = (tt, phrase_Exprs h a)
-phrases_Equals (S.Equals.equals _ {ts = ts} h _ g) a = let more = phrases_Equals g (kept-after ts _ a).1 in
-    (((phrase_Exprs h (kept-front ts _ a)).even, more.0), more.1)
+phrases_Equals (S.Equals.equals _ {ts = ts} h _ g) a = let more = phrases_Equals g (kept_after ts _ a).1 in
+    (((phrase_Exprs h (kept_front ts _ a)).even, more.0), more.1)
 phrases_Equals (S.Equals.yielded _) a = (tt, phrase_as (words_tuple []) (phrase_round even_nil))
 
 evens_Names : {ns : List (List ℕ)} {ts : List Token} → Names ns ts → AllKept ts → Evens (map name_words ns)
@@ -205,8 +205,8 @@ evens_Imports : {may : List ℕ → Bool} {x : Marks} {is : List Imported} {ts :
     AllKept ts → Evens (map imported_words is)
 evens_Imports (S.Imports.one _ _ n _ _ h) a = (even_cons (k.Name n) a.0 (λ m. refl) (even_Renamed h a.1), tt)
 evens_Imports (S.Imports.more _ n _ _ {ts = ts} _ h g) a = (
-  even_cons (k.Name n) a.0 (λ m. refl) (even_Renamed h (kept-front ts _ a.1)),
-  evens_Imports g (kept-after ts _ a.1).1,
+  even_cons (k.Name n) a.0 (λ m. refl) (even_Renamed h (kept_front ts _ a.1)),
+  evens_Imports g (kept_after ts _ a.1).1,
 )
 evens_Imports (S.Imports.wrong _ _ _ _) a = tt
 
@@ -285,7 +285,7 @@ simple_is (S.Simple.assign {a = b} {b = d} {es = es} {ts = ts} h) a =
     }
 simple_is (S.Simple.augment _ o _ {a = b} {b = d} {ts = ts} _ h _ g) a =
     simple_on (line_append ts _ (starts_Exprs h))
-    (augment_simple b d o (line_of ts) (phrase_Exprs h (kept-front ts _ a)) (phrase_Exprs g (kept-after ts _ a).1))
+    (augment_simple b d o (line_of ts) (phrase_Exprs h (kept_front ts _ a)) (phrase_Exprs g (kept_after ts _ a).1))
 simple_is (S.Simple.print_end _ p) a = keyword_simple keyword.PRINT refl (piece_print p.line [] false) even_nil
 simple_is (S.Simple.print p {es = es} {b = b} h) a = keyword_simple keyword.PRINT refl (piece_print p.line es b)
     (even2 (even_commas (map words es) (evens_Tests h a.1)) (even_trailing b))
@@ -300,7 +300,7 @@ simple_is (S.Simple.raise_one p {a = b} h) a = keyword_simple keyword.RAISE refl
     (even2 (phrase_Is h a.1).even even_nil)
 simple_is (S.Simple.raise_two p _ {a = b} {b = d} {ts = ts} h g) a =
     keyword_simple keyword.RAISE refl (piece_raise p.line (Some b) (Some d))
-    (even2 (phrase_Is h (kept-front ts _ a.1)).even (even_comma (phrase_Is g (kept-after ts _ a.1).1)))
+    (even2 (phrase_Is h (kept_front ts _ a.1)).even (even_comma (phrase_Is g (kept_after ts _ a.1).1)))
 simple_is (S.Simple.del p {es = es} h) a = keyword_simple keyword.DEL refl (piece_del p.line es)
     (even_commas (map words es) (evens_Targets h a.1))
 simple_is (S.Simple.global _ p {ns = ns} h) a = keyword_simple keyword.GLOBAL refl (piece_global p.line ns)
@@ -309,7 +309,7 @@ simple_is (S.Simple.assert_one p {a = b} h) a = keyword_simple keyword.ASSERT re
     (even2 (phrase_Is h a.1).even even_nil)
 simple_is (S.Simple.assert_two p _ {a = b} {b = d} {ts = ts} h g) a =
     keyword_simple keyword.ASSERT refl (piece_assert p.line b (Some d))
-    (even2 (phrase_Is h (kept-front ts _ a.1)).even (even_comma (phrase_Is g (kept-after ts _ a.1).1)))
+    (even2 (phrase_Is h (kept_front ts _ a.1)).even (even_comma (phrase_Is g (kept_after ts _ a.1).1)))
 simple_is (S.Simple.import p {is = is} h) a = keyword_simple keyword.IMPORT refl (piece_import p.line is)
     (even_commas (map imported_words is) (evens_Imports h a.1))
 simple_is (S.Simple.from m p _ _ {is = is} _ h) a = keyword_simple keyword.FROM refl (piece_from p.line m is)
@@ -320,10 +320,10 @@ simple_is (S.Simple.exec p) a = keyword_simple keyword.PASS refl (piece_pass p.l
 simple_is (S.Simple.yield p) a = keyword_simple keyword.PASS refl (piece_pass p.line) even_nil
 simple_is (S.Simple.augment_yield _ o _ _ {a = b} {ts = ts} _ h _) a =
     simple_on (line_append ts _ (starts_Exprs h))
-    (augment_simple b b o (line_of ts) (phrase_Exprs h (kept-front ts _ a)) (phrase_Exprs h (kept-front ts _ a)))
+    (augment_simple b b o (line_of ts) (phrase_Exprs h (kept_front ts _ a)) (phrase_Exprs h (kept_front ts _ a)))
 simple_is (S.Simple.print_to p _) a = keyword_simple keyword.PASS refl (piece_pass p.line) even_nil
 simple_is (S.Simple.traceback p _ _ {a = b} {b = d} {ts = ts} {us = us} h g) a =
-    let one = kept-front (ts ++ _ ∷ us) _ a.1 in
+    let one = kept_front (ts ++ _ ∷ us) _ a.1 in
     keyword_simple keyword.RAISE refl (piece_raise p.line (Some b) (Some d))
-    (even2 (phrase_Is h (kept-front ts _ one)).even (even_comma (phrase_Is g (kept-after ts _ one).1)))
+    (even2 (phrase_Is h (kept_front ts _ one)).even (even_comma (phrase_Is g (kept_after ts _ one).1)))
 simple_is (S.Simple.from_wrong _ p _ _) a = keyword_simple keyword.PASS refl (piece_pass p.line) even_nil

@@ -25,7 +25,7 @@ use Rattle.py_tree.proofs.Spellings.{words_name, words_int, words_str, words_gro
 use Rattle.py_parser.specs.Words.{spelled}
 use Rattle.py_parser.specs.Grammar as G
 use Rattle.py_parser.specs.Grammar.{Marks, Is, Strings, Tests, Commas, Exprs, Pairs, Links, Trailers, Trails, Maybe, Args}
-use Rattle.py_tree.proofs.Lined.{AllKept, kept-front, kept-after}
+use Rattle.py_tree.proofs.Lined.{AllKept, kept_front, kept_after}
 
 -- ---- words
 
@@ -207,58 +207,58 @@ mutual
   phrase_Is (G.Is.strings {s = s} h) a =
       phrase_as (words_str s) (phrase_cons (k.Str s) (word_strings h a) (λ n. refl) even_nil)
   phrase_Is (G.Is.group _ _ {a = b} {ts = ts} h) a =
-      phrase_as (words_group b) (phrase_round (phrase_Is h (kept-front ts _ a.1)).even)
+      phrase_as (words_group b) (phrase_round (phrase_Is h (kept_front ts _ a.1)).even)
   phrase_Is (G.Is.unit _ _ _) a = phrase_as (words_tuple []) (phrase_round even_nil)
   phrase_Is (G.Is.round _ _ {es = es} {ts = ts} h) a =
-      phrase_as (words_tuple es) (phrase_round (even_tuple (map words es) (evens_Commas h (kept-front ts _ a.1))))
+      phrase_as (words_tuple es) (phrase_round (even_tuple (map words es) (evens_Commas h (kept_front ts _ a.1))))
   phrase_Is (G.Is.no_list _ _ _) a = phrase_as (words_list []) (phrase_square even_nil)
   phrase_Is (G.Is.list _ _ {es = es} {ts = ts} h) a =
-      phrase_as (words_list es) (phrase_square (even_commas (map words es) (evens_Tests h (kept-front ts _ a.1))))
+      phrase_as (words_list es) (phrase_square (even_commas (map words es) (evens_Tests h (kept_front ts _ a.1))))
   phrase_Is (G.Is.no_dict _ _ _) a = phrase_as (words_dict []) (phrase_brace even_nil)
   phrase_Is (G.Is.dict _ _ {ps = ps} {ts = ts} h) a =
-      phrase_as (words_dict ps) (phrase_brace (even_commas (map words_pair ps) (evens_Pairs h (kept-front ts _ a.1))))
+      phrase_as (words_dict ps) (phrase_brace (even_commas (map words_pair ps) (evens_Pairs h (kept_front ts _ a.1))))
   phrase_Is (G.Is.trail {a = b} {rs = rs} {ts = ts} {us = us} h g) a =
-      phrase_as (words_trail b rs) (phrase2 (phrase_Is h (kept-front ts us a))
-      (even_all (map words_trailer rs) (evens_Trailers g (kept-after ts us a))))
+      phrase_as (words_trail b rs) (phrase2 (phrase_Is h (kept_front ts us a))
+      (even_all (map words_trailer rs) (evens_Trailers g (kept_after ts us a))))
   phrase_Is (G.Is.power _ {a = b} {b = d} {ts = ts} h g) a =
-      phrase_as (words_power b d) (phrase2 (phrase_Is h (kept-front ts _ a))
-      (even_cons (k.Op operator.POWER) refl (λ n. refl) (phrase_Is g (kept-after ts _ a).1).even))
+      phrase_as (words_power b d) (phrase2 (phrase_Is h (kept_front ts _ a))
+      (even_cons (k.Op operator.POWER) refl (λ n. refl) (phrase_Is g (kept_after ts _ a).1).even))
   phrase_Is (G.Is.signed s _ {a = b} h) a = phrase_as (words_unary s b) (phrase2 (even_sign s) (phrase_Is h a.1).even)
   phrase_Is (G.Is.chain l {a = b} {ls = ls} {ts = ts} {us = us} h g) a =
-      phrase_as (words_chain l b ls) (phrase2 (phrase_Is h (kept-front ts us a))
-      (even_all (map words_link ls) (evens_Links g (kept-after ts us a))))
+      phrase_as (words_chain l b ls) (phrase2 (phrase_Is h (kept_front ts us a))
+      (even_all (map words_link ls) (evens_Links g (kept_after ts us a))))
   phrase_Is (G.Is.negated _ {a = b} h) a =
       phrase_as (words_not b) (phrase_cons (k.Keyword keyword.NOT) refl (λ n. refl) (phrase_Is h a.1).even)
   phrase_Is (G.Is.choice p q {a = b} {b = d} {d = f} {ts = ts} {us = us} {vs = vs} h g i) a =
-      let one = kept-front (ts ++ _ ∷ us) _ a in
+      let one = kept_front (ts ++ _ ∷ us) _ a in
       phrase_as (words_choice b d f) (phrase2
-      (phrase2 (phrase_Is h (kept-front ts _ one))
-      (even_cons (k.Keyword keyword.IF) refl (λ n. refl) (phrase_Is g (kept-after ts _ one).1).even))
-      (even_cons (k.Keyword keyword.ELSE) refl (λ n. refl) (phrase_Is i (kept-after (ts ++ _ ∷ us) _ a).1).even))
+      (phrase2 (phrase_Is h (kept_front ts _ one))
+      (even_cons (k.Keyword keyword.IF) refl (λ n. refl) (phrase_Is g (kept_after ts _ one).1).even))
+      (even_cons (k.Keyword keyword.ELSE) refl (λ n. refl) (phrase_Is i (kept_after (ts ++ _ ∷ us) _ a).1).even))
   phrase_Is (G.Is.float _) a = phrase_as (words_tuple []) (phrase_round even_nil)
   phrase_Is (G.Is.long _) a = phrase_as (words_tuple []) (phrase_round even_nil)
   phrase_Is (G.Is.backquote _) a = phrase_as (words_tuple []) (phrase_round even_nil)
   phrase_Is (G.Is.lambda _) a = phrase_as (words_tuple []) (phrase_round even_nil)
   phrase_Is (G.Is.yielded _ _) a = phrase_as (words_tuple []) (phrase_round even_nil)
   phrase_Is (G.Is.generator _ _ {a = b} {ts = ts} h) a =
-      phrase_as (words_group b) (phrase_round (phrase_Is h (kept-front ts _ a.1)).even)
+      phrase_as (words_group b) (phrase_round (phrase_Is h (kept_front ts _ a.1)).even)
   phrase_Is (G.Is.comprehension _ _ {a = b} {ts = ts} h) a =
       phrase_as (words_list (b ∷ [])) (phrase_square
-      (even_commas (words b ∷ []) ((phrase_Is h (kept-front ts _ a.1)).even, tt)))
+      (even_commas (words b ∷ []) ((phrase_Is h (kept_front ts _ a.1)).even, tt)))
   phrase_Is (G.Is.set_of _ _ {a = b} {ts = ts} h) a = phrase_as (words_dict (record { key = b; value = b } ∷ []))
       (phrase_brace (even_commas (words_pair (record { key = b; value = b }) ∷ [])
-      (even_pair b b (phrase_Is h (kept-front ts _ a.1)) (phrase_Is h (kept-front ts _ a.1)), tt)))
+      (even_pair b b (phrase_Is h (kept_front ts _ a.1)) (phrase_Is h (kept_front ts _ a.1)), tt)))
   phrase_Is (G.Is.dict_of _ _ _ {a = b} {b = d} {ts = ts} {us = us} h g) a =
-      let one = kept-front (ts ++ _ ∷ us) _ a.1 in
+      let one = kept_front (ts ++ _ ∷ us) _ a.1 in
       phrase_as (words_dict (record { key = b; value = d } ∷ []))
       (phrase_brace (even_commas (words_pair (record { key = b; value = d }) ∷ [])
-      (even_pair b d (phrase_Is h (kept-front ts _ one)) (phrase_Is g (kept-after ts _ one).1), tt)))
+      (even_pair b d (phrase_Is h (kept_front ts _ one)) (phrase_Is g (kept_after ts _ one).1), tt)))
   phrase_Is (G.Is.set _ _ {a = b} {ts = ts} h) a = phrase_as (words_dict (record { key = b; value = b } ∷ []))
       (phrase_brace (even_commas (words_pair (record { key = b; value = b }) ∷ [])
-      (even_pair b b (phrase_Is h (kept-front ts _ a.1)) (phrase_Is h (kept-front ts _ a.1)), tt)))
+      (even_pair b b (phrase_Is h (kept_front ts _ a.1)) (phrase_Is h (kept_front ts _ a.1)), tt)))
   phrase_Is (G.Is.set_one _ _ {a = b} {ts = ts} h) a = phrase_as (words_dict (record { key = b; value = b } ∷ []))
       (phrase_brace (even_commas (words_pair (record { key = b; value = b }) ∷ [])
-      (even_pair b b (phrase_Is h (kept-front ts _ a.1)) (phrase_Is h (kept-front ts _ a.1)), tt)))
+      (even_pair b b (phrase_Is h (kept_front ts _ a.1)) (phrase_Is h (kept_front ts _ a.1)), tt)))
 
   pub phrase_Exprs : {x : Marks} {a : Expr} {ts : List Token} → Exprs x a ts → AllKept ts → Phrase (words a)
   phrase_Exprs (G.Exprs.single h) a = phrase_Is h a
@@ -268,67 +268,67 @@ mutual
   pub evens_Tests : {x : Marks} {es : List Expr} {b : Bool} {ts : List Token} → Tests x es b ts → AllKept ts →
       Evens (map words es)
   evens_Tests (G.Tests.only h) a = ((phrase_Is h a).even, tt)
-  evens_Tests (G.Tests.only_comma _ {ts = ts} h) a = ((phrase_Is h (kept-front ts _ a)).even, tt)
+  evens_Tests (G.Tests.only_comma _ {ts = ts} h) a = ((phrase_Is h (kept_front ts _ a)).even, tt)
   evens_Tests (G.Tests.more_tests _ {ts = ts} h g) a =
-      ((phrase_Is h (kept-front ts _ a)).even, evens_Tests g (kept-after ts _ a).1)
+      ((phrase_Is h (kept_front ts _ a)).even, evens_Tests g (kept_after ts _ a).1)
 
   evens_Commas : {x : Marks} {es : List Expr} {ts : List Token} → Commas x es ts → AllKept ts → Evens (map words es)
-  evens_Commas (G.Commas.lone _ {ts = ts} h) a = ((phrase_Is h (kept-front ts _ a)).even, tt)
+  evens_Commas (G.Commas.lone _ {ts = ts} h) a = ((phrase_Is h (kept_front ts _ a)).even, tt)
   evens_Commas (G.Commas.several _ {ts = ts} h g) a =
-      ((phrase_Is h (kept-front ts _ a)).even, evens_Tests g (kept-after ts _ a).1)
+      ((phrase_Is h (kept_front ts _ a)).even, evens_Tests g (kept_after ts _ a).1)
 
   evens_Pairs : {x : Marks} {ps : List Pair} {ts : List Token} → Pairs x ps ts → AllKept ts → Evens (map words_pair ps)
   evens_Pairs (G.Pairs.pair _ {a = b} {b = d} {ts = ts} h g) a =
-      (even_pair b d (phrase_Is h (kept-front ts _ a)) (phrase_Is g (kept-after ts _ a).1), tt)
+      (even_pair b d (phrase_Is h (kept_front ts _ a)) (phrase_Is g (kept_after ts _ a).1), tt)
   evens_Pairs (G.Pairs.pair_comma _ _ {a = b} {b = d} {ts = ts} {us = us} h g) a =
-      let one = kept-front (ts ++ _ ∷ us) _ a in
-      (even_pair b d (phrase_Is h (kept-front ts _ one)) (phrase_Is g (kept-after ts _ one).1), tt)
+      let one = kept_front (ts ++ _ ∷ us) _ a in
+      (even_pair b d (phrase_Is h (kept_front ts _ one)) (phrase_Is g (kept_after ts _ one).1), tt)
   evens_Pairs (G.Pairs.more_pairs _ _ {a = b} {b = d} {ts = ts} {us = us} h g i) a =
-      let one = kept-front (ts ++ _ ∷ us) _ a in (
-        even_pair b d (phrase_Is h (kept-front ts _ one)) (phrase_Is g (kept-after ts _ one).1),
-        evens_Pairs i (kept-after (ts ++ _ ∷ us) _ a).1,
+      let one = kept_front (ts ++ _ ∷ us) _ a in (
+        even_pair b d (phrase_Is h (kept_front ts _ one)) (phrase_Is g (kept_after ts _ one).1),
+        evens_Pairs i (kept_after (ts ++ _ ∷ us) _ a).1,
       )
 
   evens_Links : {x : Marks} {l : Level} {ls : List Link} {ts : List Token} → Links x l ls ts → AllKept ts →
       Evens (map words_link ls)
-  evens_Links (G.Links.link _ o p q {a = b} h g) a = (even_link o b (phrase_Is g (kept-after (spelled o p q) _ a)), tt)
+  evens_Links (G.Links.link _ o p q {a = b} h g) a = (even_link o b (phrase_Is g (kept_after (spelled o p q) _ a)), tt)
   evens_Links (G.Links.more_links _ o p q {a = b} {ts = ts} {us = us} h g i) a =
-      let one = kept-front (spelled o p q ++ ts) us a in (
-        even_link o b (phrase_Is g (kept-after (spelled o p q) ts one)),
-        evens_Links i (kept-after (spelled o p q ++ ts) us a),
+      let one = kept_front (spelled o p q ++ ts) us a in (
+        even_link o b (phrase_Is g (kept_after (spelled o p q) ts one)),
+        evens_Links i (kept_after (spelled o p q ++ ts) us a),
       )
 
   evens_Trailers : {x : Marks} {rs : List Trailer} {ts : List Token} → Trailers x rs ts → AllKept ts →
       Evens (map words_trailer rs)
   evens_Trailers (G.Trailers.last h) a = (even_Trails h a, tt)
   evens_Trailers (G.Trailers.more_trailers {ts = ts} {us = us} h g) a =
-      (even_Trails h (kept-front ts us a), evens_Trailers g (kept-after ts us a))
+      (even_Trails h (kept_front ts us a), evens_Trailers g (kept_after ts us a))
 
   even_Trails : {x : Marks} {r : Trailer} {ts : List Token} → Trails x r ts → AllKept ts → Even (words_trailer r)
   even_Trails (G.Trails.attribute _ n _ _) a =
       even_as (words_attribute n) (even_cons (k.Op operator.DOT) refl (λ n. refl)
       (even_cons (k.Name n) a.1.0 (λ n. refl) even_nil))
   even_Trails (G.Trails.index _ _ {a = b} {ts = ts} h) a =
-      even_as (words_index b) (phrase_square (phrase_Exprs h (kept-front ts _ a.1)).even).even
+      even_as (words_index b) (phrase_square (phrase_Exprs h (kept_front ts _ a.1)).even).even
   even_Trails (G.Trails.slice _ _ _ {a = b} {b = d} {ts = ts} {us = us} h g) a =
-      let one = kept-front (ts ++ _ ∷ us) _ a.1 in
-      even_as (words_slice b d) (even_slice b d (even_Maybe h (kept-front ts _ one))
-      (even_Maybe g (kept-after ts _ one).1))
+      let one = kept_front (ts ++ _ ∷ us) _ a.1 in
+      even_as (words_slice b d) (even_slice b d (even_Maybe h (kept_front ts _ one))
+      (even_Maybe g (kept_after ts _ one).1))
   even_Trails (G.Trails.no_call _ _ _) a = even_as (words_call [] []) (phrase_round even_nil).even
   even_Trails (G.Trails.call _ _ {es = es} {ns = ns} {ts = ts} h) a =
       even_as (words_call es ns) (phrase_round
-      (even_commas (map words es ++ map words_named ns) (evens_Args h (kept-front ts _ a.1)))).even
+      (even_commas (map words es ++ map words_named ns) (evens_Args h (kept_front ts _ a.1)))).even
   even_Trails (G.Trails.generator_call _ _ {a = b} {ts = ts} h) a =
       even_as (words_call (b ∷ []) []) (phrase_round
-      (even_commas (words b ∷ []) ((phrase_Is h (kept-front ts _ a.1)).even, tt))).even
+      (even_commas (words b ∷ []) ((phrase_Is h (kept_front ts _ a.1)).even, tt))).even
   even_Trails (G.Trails.long_slice _ _ _ {a = b} {b = d} {ts = ts} {us = us} h g) a =
-      let one = kept-front (ts ++ _ ∷ us) _ a.1 in
-      even_as (words_slice b d) (even_slice b d (even_Maybe h (kept-front ts _ one))
-      (even_Maybe g (kept-after ts _ one).1))
+      let one = kept_front (ts ++ _ ∷ us) _ a.1 in
+      even_as (words_slice b d) (even_slice b d (even_Maybe h (kept_front ts _ one))
+      (even_Maybe g (kept_after ts _ one).1))
   even_Trails (G.Trails.slices _ _ _ {a = b} {b = d} {ts = ts} {us = us} h g) a =
-      let one = kept-front (ts ++ _ ∷ us) _ a.1 in
-      even_as (words_slice b d) (even_slice b d (even_Maybe h (kept-front ts _ one))
-      (even_Maybe g (kept-after ts _ one).1))
+      let one = kept_front (ts ++ _ ∷ us) _ a.1 in
+      even_as (words_slice b d) (even_slice b d (even_Maybe h (kept_front ts _ one))
+      (even_Maybe g (kept_after ts _ one).1))
 
   pub even_Maybe : {x : Marks} {a : Option Expr} {ts : List Token} → Maybe x a ts → AllKept ts → Even (expr_or a)
   even_Maybe (G.Maybe.nothing _) a = even_nil
@@ -337,13 +337,13 @@ mutual
   evens_Args : {x : Marks} {es : List Expr} {ns : List Named} {ts : List Token} → Args x es ns ts → AllKept ts →
       Evens (map words es ++ map words_named ns)
   evens_Args (G.Args.arg h) a = ((phrase_Is h a).even, tt)
-  evens_Args (G.Args.arg_comma _ {ts = ts} h) a = ((phrase_Is h (kept-front ts _ a)).even, tt)
+  evens_Args (G.Args.arg_comma _ {ts = ts} h) a = ((phrase_Is h (kept_front ts _ a)).even, tt)
   evens_Args (G.Args.more_args _ {ts = ts} h g) a =
-      ((phrase_Is h (kept-front ts _ a)).even, evens_Args g (kept-after ts _ a).1)
+      ((phrase_Is h (kept_front ts _ a)).even, evens_Args g (kept_after ts _ a).1)
   evens_Args (G.Args.named n _ _ {a = b} h) a = (even_named n b a.0 (phrase_Is h a.1.1), tt)
   evens_Args (G.Args.named_comma n _ _ _ {a = b} {ts = ts} h) a =
-      (even_named n b a.0 (phrase_Is h (kept-front ts _ a.1.1)), tt)
+      (even_named n b a.0 (phrase_Is h (kept_front ts _ a.1.1)), tt)
   evens_Args (G.Args.more_named n _ _ _ {a = b} {ts = ts} h g) a =
-      (even_named n b a.0 (phrase_Is h (kept-front ts _ a.1.1)), evens_Args g (kept-after ts _ a.1.1).1)
+      (even_named n b a.0 (phrase_Is h (kept_front ts _ a.1.1)), evens_Args g (kept_after ts _ a.1.1).1)
   evens_Args (G.Args.starred _) a = tt
   evens_Args (G.Args.double_starred _) a = tt

@@ -42,30 +42,30 @@ abbrev pub Placed : ℕ → ℕ → List Character → Type 0
 Placed size at [] = at ≤ size
 Placed size at (c ∷ cs) = (at ≤ c.from) × (c.from ≤ c.to) × Placed size c.to cs
 
-pub placed-le : (size a b : ℕ) (cs : List Character) → a ≤ b → Placed size b cs → Placed size a cs
-placed-le size a b [] h p = let q : b ≤ size = p in omega arith
-placed-le size a b (c ∷ cs) h p = let q : b ≤ c.from = p.0 in (omega arith, p.1, p.2)
+pub placed_le : (size a b : ℕ) (cs : List Character) → a ≤ b → Placed size b cs → Placed size a cs
+placed_le size a b [] h p = let q : b ≤ size = p in omega arith
+placed_le size a b (c ∷ cs) h p = let q : b ≤ c.from = p.0 in (omega arith, p.1, p.2)
 
-placed-drop : (size at n : ℕ) (cs : List Character) → Placed size at cs → Placed size at (drop n cs)
-placed-drop size at zero [] p = p
-placed-drop size at (suc n) [] p = p
-placed-drop size at zero (c ∷ cs) p = p
-placed-drop size at (suc n) (c ∷ cs) p = let q : at ≤ c.from = p.0 in let r : c.from ≤ c.to = p.1 in
-    placed-le size at c.to (drop n cs) (omega arith) (placed-drop size c.to n cs p.2)
+placed_drop : (size at n : ℕ) (cs : List Character) → Placed size at cs → Placed size at (drop n cs)
+placed_drop size at zero [] p = p
+placed_drop size at (suc n) [] p = p
+placed_drop size at zero (c ∷ cs) p = p
+placed_drop size at (suc n) (c ∷ cs) p = let q : at ≤ c.from = p.0 in let r : c.from ≤ c.to = p.1 in
+    placed_le size at c.to (drop n cs) (omega arith) (placed_drop size c.to n cs p.2)
 
 pub placed_cases : (p : Bool) (size at : ℕ) (xs ys : List Character) → Placed size at xs → Placed size at ys →
     Placed size at (if p then xs else ys)
 placed_cases true size at xs ys p q = p
 placed_cases false size at xs ys p q = q
 
-pub placed-characters : (size at line : ℕ) (bs : List ℕ) → at + length bs ≤ size →
+pub placed_characters : (size at line : ℕ) (bs : List ℕ) → at + length bs ≤ size →
     Placed size at (characters at line bs)
-placed-characters size at line [] h = omega arith
-placed-characters size at line (b ∷ []) h = (omega arith, omega arith, omega arith)
-placed-characters size at line (b ∷ c ∷ bs) h =
+placed_characters size at line [] h = omega arith
+placed_characters size at line (b ∷ []) h = (omega arith, omega arith, omega arith)
+placed_characters size at line (b ∷ c ∷ bs) h =
     placed_cases (b == 13 && c == 10) size at _ _
-    (omega arith, omega arith, placed-characters size (at + 2) (line + 1) bs (omega arith))
-    (omega arith, omega arith, placed-characters size (at + 1) (line_after (line_end b) line) (c ∷ bs) (omega arith))
+    (omega arith, omega arith, placed_characters size (at + 2) (line + 1) bs (omega arith))
+    (omega arith, omega arith, placed_characters size (at + 1) (line_after (line_end b) line) (c ∷ bs) (omega arith))
 
 -- ---- what is read at the front
 
@@ -77,7 +77,7 @@ keeps_all : (cs : List Character) → Keeps cs cs
 keeps_all cs size at p = p
 
 keeps_drop : (n : ℕ) (cs ds : List Character) → Keeps cs ds → Keeps cs (drop n ds)
-keeps_drop n cs ds h size at p = placed-drop size at n ds (h size at p)
+keeps_drop n cs ds h size at p = placed_drop size at n ds (h size at p)
 
 keeps_if : (b : Bool) (cs xs ys : List Character) → Keeps cs xs → Keeps cs ys → Keeps cs (if b then xs else ys)
 keeps_if true cs xs ys p q = p
@@ -205,15 +205,15 @@ WordsPlaced size at (Opens t ∷ ws) = (at ≤ t.from) × (t.from ≤ t.to) × I
 WordsPlaced size at (Closes t ∷ ws) = (at ≤ t.from) × (t.from ≤ t.to) × IsInLine t.kind × WordsPlaced size t.to ws
 WordsPlaced size at (Plain t ∷ ws) = (at ≤ t.from) × (t.from ≤ t.to) × IsInLine t.kind × WordsPlaced size t.to ws
 
-pub words_placed-le : (size a b : ℕ) (ws : List Word) → a ≤ b → WordsPlaced size b ws → WordsPlaced size a ws
-words_placed-le size a b [] h p = let q : b ≤ size = p in omega arith
-words_placed-le size a b (Blank x ∷ ws) h p = words_placed-le size a b ws h p
-words_placed-le size a b (Comment ∷ ws) h p = words_placed-le size a b ws h p
-words_placed-le size a b (Joint e ∷ ws) h p = let q : b ≤ e.from = p.0 in (omega arith, p.1, p.2)
-words_placed-le size a b (LineEnd e ∷ ws) h p = let q : b ≤ e.from = p.0 in (omega arith, p.1, p.2)
-words_placed-le size a b (Opens t ∷ ws) h p = let q : b ≤ t.from = p.0 in (omega arith, p.1, p.2, p.3)
-words_placed-le size a b (Closes t ∷ ws) h p = let q : b ≤ t.from = p.0 in (omega arith, p.1, p.2, p.3)
-words_placed-le size a b (Plain t ∷ ws) h p = let q : b ≤ t.from = p.0 in (omega arith, p.1, p.2, p.3)
+pub words_placed_le : (size a b : ℕ) (ws : List Word) → a ≤ b → WordsPlaced size b ws → WordsPlaced size a ws
+words_placed_le size a b [] h p = let q : b ≤ size = p in omega arith
+words_placed_le size a b (Blank x ∷ ws) h p = words_placed_le size a b ws h p
+words_placed_le size a b (Comment ∷ ws) h p = words_placed_le size a b ws h p
+words_placed_le size a b (Joint e ∷ ws) h p = let q : b ≤ e.from = p.0 in (omega arith, p.1, p.2)
+words_placed_le size a b (LineEnd e ∷ ws) h p = let q : b ≤ e.from = p.0 in (omega arith, p.1, p.2)
+words_placed_le size a b (Opens t ∷ ws) h p = let q : b ≤ t.from = p.0 in (omega arith, p.1, p.2, p.3)
+words_placed_le size a b (Closes t ∷ ws) h p = let q : b ≤ t.from = p.0 in (omega arith, p.1, p.2, p.3)
+words_placed_le size a b (Plain t ∷ ws) h p = let q : b ≤ t.from = p.0 in (omega arith, p.1, p.2, p.3)
 
 -- a word, before any words that are in order after it
 abbrev PieceGood : ℕ → ℕ → Piece → Type 0
@@ -227,15 +227,15 @@ piece_if true size at r s p q = p
 piece_if false size at r s p q = q
 
 -- a token from c up to the rest
-place_before-in_order : (size : ℕ) (c : Character) (rest : List Character) → Placed size c.from rest →
+place_before_in_order : (size : ℕ) (c : Character) (rest : List Character) → Placed size c.from rest →
     (c.from ≤ (place_before size c rest).to) × Placed size (place_before size c rest).to rest
-place_before-in_order size c [] p = (p, omega arith)
-place_before-in_order size c (d ∷ ds) p = (p.0, (omega arith, p.1, p.2))
+place_before_in_order size c [] p = (p, omega arith)
+place_before_in_order size c (d ∷ ds) p = (p.0, (omega arith, p.1, p.2))
 
 good_plain : (size at : ℕ) (c : Character) (kind : TokenKind) (rest : List Character) → IsInLine kind → at ≤ c.from →
     Placed size c.from rest → PieceGood size at (Ok (Plain (token_at kind (place_before size c rest)), rest))
-good_plain size at c kind [] l h p ws go = let o = place_before-in_order size c [] p in (h, o.0, l, go _ o.1)
-good_plain size at c kind (d ∷ ds) l h p ws go = let o = place_before-in_order size c (d ∷ ds) p in
+good_plain size at c kind [] l h p ws go = let o = place_before_in_order size c [] p in (h, o.0, l, go _ o.1)
+good_plain size at c kind (d ∷ ds) l h p ws go = let o = place_before_in_order size c (d ∷ ds) p in
     (h, o.0, l, go _ o.1)
 
 good_token : (size at : ℕ) (c : Character) (all : List Character) (r : Read) → at ≤ c.from → Placed size c.from all →
@@ -257,7 +257,7 @@ good_operator : (size at : ℕ) (c : Character) (all : List Character) (o : Opti
 good_operator size at c all None h p = tt
 good_operator size at c all (Some o) h p = let rest = drop o.1 all in
     good_bracketed size at o.0 (token_at (k.Op o.0) (place_before size c rest)) rest
-    (good_plain size at c (k.Op o.0) rest tt h (placed-drop size c.from o.1 all p))
+    (good_plain size at c (k.Op o.0) rest tt h (placed_drop size c.from o.1 all p))
 
 good_word : (size at : ℕ) (c : Character) (cs : List Character) → Placed size at (c ∷ cs) →
     PieceGood size at (word_at size (c ∷ cs))
@@ -267,12 +267,12 @@ good_word size at c cs p =
     let first : at ≤ c.from = p.0 in
     let wide : c.from ≤ c.to = p.1 in
     let here : Placed size c.from (c ∷ cs) = (omega arith, p.1, p.2) in
-    let later : Placed size at cs = placed-le size at c.to cs (omega arith) p.2 in
+    let later : Placed size at cs = placed_le size at c.to cs (omega arith) p.2 in
     piece_if (c.byte == 10) size at _ _ (λ ws go. (p.0, p.1, go c.to p.2))
     (piece_if (holds class.Blank c.byte) size at _ _ (λ ws go. go at later)
-    (piece_if (c.byte == 35) size at _ _ (λ ws go. go at (placed-drop size at (run_len class.InLine cs) cs later))
+    (piece_if (c.byte == 35) size at _ _ (λ ws go. go at (placed_drop size at (run_len class.InLine cs) cs later))
     (piece_if (c.byte == 92) size at _ _
-    (piece_if (next_is (class.Byte 10) cs) size at _ _ (λ ws go. (p.0, p.1, go c.to (placed-drop size c.to 1 cs p.2)))
+    (piece_if (next_is (class.Byte 10) cs) size at _ _ (λ ws go. (p.0, p.1, go c.to (placed_drop size c.to 1 cs p.2)))
     tt)
     (piece_if (holds class.NameStart c.byte) size at _ _
     (good_token size at c all (name_at c.line all) p.0 here (keeps_name c.line all))
@@ -283,17 +283,17 @@ good_word size at c cs p =
     (good_token size at c all (number_at c.line all) p.0 here (keeps_number c.line all))
     (good_operator size at c all (operator_at operators all) p.0 here)))))))
 
-placed-end : (size at : ℕ) (cs : List Character) → Placed size at cs → at ≤ size
-placed-end size at [] p = p
-placed-end size at (c ∷ cs) p =
+placed_end : (size at : ℕ) (cs : List Character) → Placed size at cs → at ≤ size
+placed_end size at [] p = p
+placed_end size at (c ∷ cs) p =
     let first : at ≤ c.from = p.0 in
     let wide : c.from ≤ c.to = p.1 in
-    let last : c.to ≤ size = placed-end size c.to cs p.2 in
+    let last : c.to ≤ size = placed_end size c.to cs p.2 in
     omega arith
 
 pub cut_placed : (n size at : ℕ) (cs : List Character) → Placed size at cs → WordsPlaced size at (cut n size cs).words
 unfolding cut
-cut_placed zero size at cs p = placed-end size at cs p
+cut_placed zero size at cs p = placed_end size at cs p
 cut_placed (suc n) size at [] p = p
 cut_placed (suc n) size at (c ∷ cs) p = go (word_at size (c ∷ cs)) (good_word size at c cs p)
     (λ rest b q. cut_placed n size b rest q)
@@ -302,4 +302,4 @@ cut_placed (suc n) size at (c ∷ cs) p = go (word_at size (c ∷ cs)) (good_wor
         ((rest : List Character) (b : ℕ) → Placed size b rest → WordsPlaced size b (cut n size rest).words) →
         WordsPlaced size at (cut_more c (cut n size) r).words
     go (Ok w) good more = good (cut n size w.1).words (more w.1)
-    go (Err e) good more = (p.0, p.1, tt, placed-end size c.to cs p.2)
+    go (Err e) good more = (p.0, p.1, tt, placed_end size c.to cs p.2)

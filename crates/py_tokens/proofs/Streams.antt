@@ -18,7 +18,7 @@ use Rattle.py_tokens.specs.Layout.{lines, lines_laid, tokens_in, joined, after_b
 use Rattle.py_tokens.specs.Stream.{after_kind, IsStream}
 use Rattle.py_tokens.specs.Tokens.{to_come, took, depth_of, Tokenizes}
 use Rattle.py_tokens.proofs.Laying.{follows_opens, follows_closes, follows_plain}
-use Rattle.py_tokens.proofs.InOrder.{IsInLine, Placed, placed-le, placed_cases, placed-characters, WordsPlaced, words_placed-le, cut_placed}
+use Rattle.py_tokens.proofs.InOrder.{IsInLine, Placed, placed_le, placed_cases, placed_characters, WordsPlaced, words_placed_le, cut_placed}
 
 -- ---- streams
 
@@ -40,9 +40,9 @@ abbrev Good : ℕ → ℕ → ℕ → Laid → Type 0
 Good size at depth (Ok ts) = IsStream size at depth ts
 Good size at depth (Err e) = Unit {0}
 
-stream-end : (size at depth : ℕ) (ts : List Token) → IsStream size at depth ts → at ≤ size
-stream-end size at depth [] p = absurd p
-stream-end size at depth (t ∷ ts) p =
+stream_end : (size at depth : ℕ) (ts : List Token) → IsStream size at depth ts → at ≤ size
+stream_end size at depth [] p = absurd p
+stream_end size at depth (t ∷ ts) p =
     let first : at ≤ t.from = p.0 in
     let wide : t.from ≤ t.to = p.1 in
     let last : t.to ≤ size = p.2 in
@@ -51,22 +51,22 @@ stream-end size at depth (t ∷ ts) p =
 good_in_line : (size at depth : ℕ) (t : Token) (r : Laid) → IsInLine t.kind → at ≤ t.from → t.from ≤ t.to →
     Good size t.to depth r → Good size at depth (before (t ∷ []) r)
 good_in_line size at depth t (Ok ts) l h w g =
-    (h, w, stream-end size t.to depth ts g, after_in_line t.kind depth _ _ l g)
+    (h, w, stream_end size t.to depth ts g, after_in_line t.kind depth _ _ l g)
 good_in_line size at depth t (Err e) l h w g = tt
 
 good_newline : (size at depth : ℕ) (p : Place) (r : Laid) → at ≤ p.from → p.from ≤ p.to → Good size p.to depth r →
     Good size at depth (before (token_at k.Newline p ∷ []) r)
-good_newline size at depth p (Ok ts) h w g = (h, w, stream-end size p.to depth ts g, g)
+good_newline size at depth p (Ok ts) h w g = (h, w, stream_end size p.to depth ts g, g)
 good_newline size at depth p (Err e) h w g = tt
 
 good_indent : (size at b line depth : ℕ) (r : Laid) → at ≤ b → Good size b (depth + 1) r →
     Good size at depth (before (token_at k.Indent (place b b line) ∷ []) r)
-good_indent size at b line depth (Ok ts) h g = (h, omega arith, stream-end size b (depth + 1) ts g, g)
+good_indent size at b line depth (Ok ts) h g = (h, omega arith, stream_end size b (depth + 1) ts g, g)
 good_indent size at b line depth (Err e) h g = tt
 
 good_dedent : (size at b line depth : ℕ) (r : Laid) → at ≤ b → 0 < depth → Good size b (depth - 1) r →
     Good size at depth (before (token_at k.Dedent (place b b line) ∷ []) r)
-good_dedent size at b line depth (Ok ts) h o g = (h, omega arith, stream-end size b (depth - 1) ts g, (o, g))
+good_dedent size at b line depth (Ok ts) h o g = (h, omega arith, stream_end size b (depth - 1) ts g, (o, g))
 good_dedent size at b line depth (Err e) h o g = tt
 
 laid_if : (b : Bool) (size at depth : ℕ) (r s : Laid) → Good size at depth r → Good size at depth s →
@@ -74,10 +74,10 @@ laid_if : (b : Bool) (size at depth : ℕ) (r s : Laid) → Good size at depth r
 laid_if true size at depth r s p q = p
 laid_if false size at depth r s p q = q
 
-good-le : (size a b depth : ℕ) (r : Laid) → a ≤ b → Good size b depth r → Good size a depth r
-good-le size a b depth (Ok []) h p = absurd p
-good-le size a b depth (Ok (t ∷ ts)) h p = let q : b ≤ t.from = p.0 in (omega arith, p.1, p.2, p.3)
-good-le size a b depth (Err e) h p = tt
+good_le : (size a b depth : ℕ) (r : Laid) → a ≤ b → Good size b depth r → Good size a depth r
+good_le size a b depth (Ok []) h p = absurd p
+good_le size a b depth (Ok (t ∷ ts)) h p = let q : b ≤ t.from = p.0 in (omega arith, p.1, p.2, p.3)
+good_le size a b depth (Err e) h p = tt
 
 -- ---- the stack
 
@@ -98,11 +98,11 @@ good_popped : (size at b line column : ℕ) (stack : List ℕ) (rest : List ℕ 
     Good size at (open_blocks stack) (popped (place b b line) column stack rest)
 good_popped size at b line column [] rest h g = tt
 good_popped size at b line column (e ∷ []) rest h g =
-    laid_if (column == e) size at 0 _ _ (good-le size at b 0 (rest (e ∷ [])) h (g (e ∷ [])))
+    laid_if (column == e) size at 0 _ _ (good_le size at b 0 (rest (e ∷ [])) h (g (e ∷ [])))
     (laid_if (nat_lt e column) size at 0 _ _ tt tt)
 good_popped size at b line column (e ∷ f ∷ stack) rest h g =
     let depth = length (f ∷ stack) in
-    laid_if (column == e) size at depth _ _ (good-le size at b depth (rest (e ∷ f ∷ stack)) h (g (e ∷ f ∷ stack)))
+    laid_if (column == e) size at depth _ _ (good_le size at b depth (rest (e ∷ f ∷ stack)) h (g (e ∷ f ∷ stack)))
     (laid_if (nat_lt e column) size at depth _ _ tt
     (good_dedent size at b line depth _ h (omega arith)
     (subst (λ n. Good size b n (popped (place b b line) column (f ∷ stack) rest)) (sym (one_less (length stack)))
@@ -192,29 +192,29 @@ good_to_come size at line stop (Fresh c) stack (Comment ∷ ws) p = good_to_come
 good_to_come size at line stop (Held c q) stack (Comment ∷ ws) p = good_to_come size at line stop (Held c q) stack ws p
 good_to_come size at line stop (Within d) stack (Comment ∷ ws) p = good_to_come size at line stop (Within d) stack ws p
 good_to_come size at line stop (Fresh c) stack (Joint q ∷ ws) p =
-    good_to_come size at line stop (Held c q) stack ws (p.0, words_placed-le size q.from q.to ws p.1 p.2)
+    good_to_come size at line stop (Held c q) stack ws (p.0, words_placed_le size q.from q.to ws p.1 p.2)
 good_to_come size at line stop (Held c q) stack (Joint r ∷ ws) p =
     let h : q.from ≤ r.from = p.1.0 in
     let w : r.from ≤ r.to = p.1.1 in
-    good_to_come size at line stop (Held c q) stack ws (p.0, words_placed-le size q.from r.to ws (omega arith) p.1.2)
+    good_to_come size at line stop (Held c q) stack ws (p.0, words_placed_le size q.from r.to ws (omega arith) p.1.2)
 good_to_come size at line stop (Within d) stack (Joint q ∷ ws) p =
     let h : at ≤ q.from = p.0 in
     let w : q.from ≤ q.to = p.1 in
-    good_to_come size at line stop (Within d) stack ws (words_placed-le size at q.to ws (omega arith) p.2)
+    good_to_come size at line stop (Within d) stack ws (words_placed_le size at q.to ws (omega arith) p.2)
 good_to_come size at line stop (Fresh c) stack (LineEnd e ∷ ws) p = let h : at ≤ e.from = p.0 in
-    let w : e.from ≤ e.to = p.1 in good-le size at e.to (open_blocks stack) _ (omega arith)
+    let w : e.from ≤ e.to = p.1 in good_le size at e.to (open_blocks stack) _ (omega arith)
     (good_to_come size e.to line stop (Fresh 0) stack ws p.2)
 good_to_come size at line stop (Held c q) stack (LineEnd e ∷ ws) p =
     let g : at ≤ q.from = p.0 in
     let h : q.from ≤ e.from = p.1.0 in
     let w : e.from ≤ e.to = p.1.1 in
-    good-le size at e.to (open_blocks stack) _ (omega arith) (good_to_come size e.to line stop (Fresh 0) stack ws p.1.2)
+    good_le size at e.to (open_blocks stack) _ (omega arith) (good_to_come size e.to line stop (Fresh 0) stack ws p.1.2)
 good_to_come size at line stop (Within d) stack (LineEnd e ∷ ws) p =
     let h : at ≤ e.from = p.0 in
     let w : e.from ≤ e.to = p.1 in
     within_cases (d == 0) (place size size line) stop d stack e ws size at
     (good_newline size at (open_blocks stack) e _ p.0 p.1 (good_to_come size e.to line stop (Fresh 0) stack ws p.2))
-    (good-le size at e.to (open_blocks stack) _ (omega arith)
+    (good_le size at e.to (open_blocks stack) _ (omega arith)
     (good_to_come size e.to line stop (Within d) stack ws p.2))
 good_to_come size at line stop m stack (Opens t ∷ ws) p =
     let o = at_token size at m t ws p in
@@ -236,20 +236,20 @@ unfolding lexed laid
 good_lexed size cs p = let c = cut (length cs) size cs in good_to_come size 0 (last_line 1 cs) c.stop (Fresh 0)
     (0 ∷ []) c.words (cut_placed (length cs) size 0 cs p)
 
-placed-text : (text : List ℕ) → Placed (length text) 0 (text_characters text)
+placed_text : (text : List ℕ) → Placed (length text) 0 (text_characters text)
 unfolding text_characters
-placed-text [] = omega arith
-placed-text (a ∷ []) = placed-characters 1 0 1 (a ∷ []) (omega arith)
-placed-text (a ∷ b ∷ []) = placed-characters 2 0 1 (a ∷ b ∷ []) (omega arith)
-placed-text (a ∷ b ∷ c ∷ bs) =
+placed_text [] = omega arith
+placed_text (a ∷ []) = placed_characters 1 0 1 (a ∷ []) (omega arith)
+placed_text (a ∷ b ∷ []) = placed_characters 2 0 1 (a ∷ b ∷ []) (omega arith)
+placed_text (a ∷ b ∷ c ∷ bs) =
     let size = length (a ∷ b ∷ c ∷ bs) in
     placed_cases (a == 239 && b == 187 && c == 191) size 0 _ _
-    (placed-le size 0 3 (characters 3 1 bs) (omega arith) (placed-characters size 3 1 bs (omega arith)))
-    (placed-characters size 0 1 (a ∷ b ∷ c ∷ bs) (omega arith))
+    (placed_le size 0 3 (characters 3 1 bs) (omega arith) (placed_characters size 3 1 bs (omega arith)))
+    (placed_characters size 0 1 (a ∷ b ∷ c ∷ bs) (omega arith))
 
 good_text : (text : List ℕ) → Good (length text) 0 0 (tokens_of_text text)
 unfolding tokens_of_text
-good_text text = good_lexed (length text) (text_characters text) (placed-text text)
+good_text text = good_lexed (length text) (text_characters text) (placed_text text)
 
 pub stream_of : {X : Type 0} (view : X → List Token) (r : Result X TokenError) (text : List ℕ) →
     Tokenizes view r (tokens_of_text text) → IfOk r (λ v. IsStream (length text) 0 0 (view v))

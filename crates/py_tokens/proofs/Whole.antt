@@ -22,8 +22,8 @@ use Rattle.py_tokens.specs.Words.{Piece, token_word, operator_word, word_at, wit
 
 -- ---- lengths
 
-drop-le : (n : ℕ) (cs : List Character) → length (drop n cs) ≤ length cs
-drop-le n cs = omega (arith, length-drop n cs)
+drop_le : (n : ℕ) (cs : List Character) → length (drop n cs) ≤ length cs
+drop_le n cs = omega (arith, length-drop n cs)
 
 -- what comes after a character that was tested
 next_shorter : (k : Class) (cs : List Character) → next_is k cs ≡ true → length (drop 1 cs) < length cs
@@ -48,20 +48,20 @@ below_if false n r s p q = q refl
 below_suffixed : (n line : ℕ) (base : Base) (digits rest : List Character) → length rest < n →
     Below n (suffixed line base digits rest)
 below_suffixed n line base digits rest h =
-    let one = drop-le 1 rest in
+    let one = drop_le 1 rest in
     below_if (next_is (class.Letter 108) rest) n _ _ (λ e. omega arith)
     (λ e. below_if (nat_lt (digits_value (base_of base) (map byte_of digits)) 9223372036854775808) n _ _ (λ f. h)
     (λ f. tt))
 
 below_prefixed : (n line : ℕ) (base : Base) (cs : List Character) → length cs < n → Below n (prefixed line base cs)
 below_prefixed n line base cs h =
-    let rest = drop-le (run_len (class.Digit base) cs) cs in
+    let rest = drop_le (run_len (class.Digit base) cs) cs in
     below_if (next_is (class.Digit base) cs) n _ _
     (λ e. below_suffixed n line base (run (class.Digit base) cs) (after (class.Digit base) cs) (omega arith))
     (λ e. tt)
 
 float_cases : (b : Bool) (n : ℕ) (cs : List Character) → length cs < n → length (if b then drop 1 cs else cs) < n
-float_cases true n cs h = let one = drop-le 1 cs in omega arith
+float_cases true n cs h = let one = drop_le 1 cs in omega arith
 float_cases false n cs h = h
 
 below_float : (n : ℕ) (cs : List Character) → length cs < n → Below n (float cs)
@@ -91,7 +91,7 @@ below_unprefixed line cs =
     let rest = after ten cs in
     let more = after_exponent (after_point rest) in
     let split = split_length (run_len ten cs) cs in
-    let fewer = drop-le (run_len ten cs) cs in
+    let fewer = drop_le (run_len ten cs) cs in
     below_if (nat_lt (length more) (length rest)) n _ _
     (λ e. let less = ltb-true (length more) (length rest) e in below_float n more (omega arith))
     (λ e. below_if (next_is (class.Letter 106) rest) n _ _ (λ f. below_imaginary n rest fewer f)
@@ -102,7 +102,7 @@ unfolding number_at
 below_number line cs =
     let n = length cs in
     let one = drop 1 cs in
-    let fewer = drop-le 1 cs in
+    let fewer = drop_le 1 cs in
     below_if (next_is (class.Byte 48) cs) n _ _
     (λ e. below_if (next_is (class.Letter 120) one) n _ _ (λ f. let h = next_shorter (class.Letter 120) one f in
     below_prefixed n line Sixteen (drop 1 one) (omega arith))
@@ -122,7 +122,7 @@ below_literal : (n line : ℕ) (p : Prefix) (q : Quoting) (body rest : List Char
     length rest < n → Below n (literal line p q body rest fault)
 below_literal n line p q body rest (Some bad) h = tt
 below_literal n line p q body rest None h =
-    let fewer = drop-le (quotes_len q) rest in
+    let fewer = drop_le (quotes_len q) rest in
     let left : length (drop (quotes_len q) rest) < n = omega arith in
     below_if (quotes q rest) n _ _ (λ e.
     below_if p.unicode n _ _ (λ f. left)
@@ -135,7 +135,7 @@ below_string n line p cs h =
     let q = quotes_at cs in
     let inner = drop (quotes_len q) cs in
     let len = body_len q false inner in
-    let fewer = drop-le len inner in
+    let fewer = drop_le len inner in
     below_literal n line p q (take len inner) (drop len inner) (escape_fault p (take len inner)) (omega arith)
 
 some_quotes : (q : Quoting) → 1 ≤ quotes_len q
@@ -147,7 +147,7 @@ some_quotes q = go q.triple
 
 below_named : (n line : ℕ) (name rest : List Character) (o : Option Prefix) → length rest < n →
     Below n (named line name rest o)
-below_named n line name rest (Some p) h = let fewer = drop-le (quotes_len (quotes_at rest)) rest in
+below_named n line name rest (Some p) h = let fewer = drop_le (quotes_len (quotes_at rest)) rest in
     below_string n line p rest (omega arith)
 below_named n line name rest None h = h
 
@@ -214,8 +214,8 @@ unfolding word_at
 word_below size c cs =
     let all = c ∷ cs in
     let n = length all in
-    let line = drop-le (run_len class.InLine cs) cs in
-    let one = drop-le 1 cs in
+    let line = drop_le (run_len class.InLine cs) cs in
+    let one = drop_le 1 cs in
     let none = prefix false false in
     let q = quotes_at all in
     piece_if (c.byte == 10) n _ _ (λ e. omega arith)

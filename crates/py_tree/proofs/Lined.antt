@@ -53,9 +53,9 @@ le_kind (Str bs) at a b rest h f g = (let q : b ≤ at = g.0 in omega arith, g.1
 le_kind (Op n) at a b rest h f g = (let q : b ≤ at = g.0 in omega arith, g.1)
 le_kind (Other o) at a b rest h f g = (let q : b ≤ at = g.0 in omega arith, g.1)
 
-pub lined-le : (ts : List Token) (a b : ℕ) → a ≤ b → IsLined b ts → IsLined a ts
-lined-le [] a b h g = tt
-lined-le (t ∷ ts) a b h g = le_kind t.kind t.line a b (λ n. IsLined n ts) h (λ c d. lined-le ts c d) g
+pub lined_le : (ts : List Token) (a b : ℕ) → a ≤ b → IsLined b ts → IsLined a ts
+lined_le [] a b h g = tt
+lined_le (t ∷ ts) a b h g = le_kind t.kind t.line a b (λ n. IsLined n ts) h (λ c d. lined_le ts c d) g
 
 drop_kind : (kind : TokenKind) (at a : ℕ) (rest : ℕ → Type 0) → ((c d : ℕ) → c ≤ d → rest d → rest c) →
     lined_kind kind at a rest → rest a
@@ -70,18 +70,18 @@ drop_kind (Str bs) at a rest f g = f a at g.0 g.1
 drop_kind (Op n) at a rest f g = f a at g.0 g.1
 drop_kind (Other o) at a rest f g = f a at g.0 g.1
 
-pub lined-tail : (t : Token) (ts : List Token) (a : ℕ) → IsLined a (t ∷ ts) → IsLined a ts
-lined-tail t ts a g = drop_kind t.kind t.line a (λ n. IsLined n ts) (λ c d. lined-le ts c d) g
+pub lined_tail : (t : Token) (ts : List Token) (a : ℕ) → IsLined a (t ∷ ts) → IsLined a ts
+lined_tail t ts a g = drop_kind t.kind t.line a (λ n. IsLined n ts) (λ c d. lined_le ts c d) g
 
 -- what follows some tokens
-pub lined-after : (ts us : List Token) (a : ℕ) → IsLined a (ts ++ us) → IsLined a us
-lined-after [] us a g = g
-lined-after (t ∷ ts) us a g = lined-after ts us a (lined-tail t (ts ++ us) a g)
+pub lined_after : (ts us : List Token) (a : ℕ) → IsLined a (ts ++ us) → IsLined a us
+lined_after [] us a g = g
+lined_after (t ∷ ts) us a g = lined_after ts us a (lined_tail t (ts ++ us) a g)
 
-pub kept-front : (ts us : List Token) → AllKept (ts ++ us) → AllKept ts
-kept-front [] us k = tt
-kept-front (t ∷ ts) us k = (k.0, kept-front ts us k.1)
+pub kept_front : (ts us : List Token) → AllKept (ts ++ us) → AllKept ts
+kept_front [] us k = tt
+kept_front (t ∷ ts) us k = (k.0, kept_front ts us k.1)
 
-pub kept-after : (ts us : List Token) → AllKept (ts ++ us) → AllKept us
-kept-after [] us k = k
-kept-after (t ∷ ts) us k = kept-after ts us k.1
+pub kept_after : (ts us : List Token) → AllKept (ts ++ us) → AllKept us
+kept_after [] us k = k
+kept_after (t ∷ ts) us k = kept_after ts us k.1

@@ -38,8 +38,8 @@ or_second false q e = e
 
 -- ---- characters
 
-pub line_after-more : (byte line : ℕ) → line ≤ line_after byte line
-line_after-more byte line = go (byte == 10)
+pub line_after_more : (byte line : ℕ) → line ≤ line_after byte line
+line_after_more byte line = go (byte == 10)
   where
     go : (p : Bool) → line ≤ (if p then line + 1 else line)
     go true = omega arith
@@ -51,36 +51,36 @@ abbrev pub Chars : ℕ → ℕ → ℕ → List Character → Type 0
 Chars last a b [] = b ≤ last
 Chars last a b (c ∷ cs) = (a ≤ c.line) × (b ≤ c.line) × (c.byte < 256) × Chars last (line_after c.byte c.line) c.line cs
 
-pub chars-le : (last a b c d : ℕ) (cs : List Character) → c ≤ a → d ≤ b → Chars last a b cs → Chars last c d cs
-chars-le last a b c d [] h g p = let q : b ≤ last = p in omega arith
-chars-le last a b c d (x ∷ cs) h g p = let q : a ≤ x.line = p.0 in let r : b ≤ x.line = p.1 in
+pub chars_le : (last a b c d : ℕ) (cs : List Character) → c ≤ a → d ≤ b → Chars last a b cs → Chars last c d cs
+chars_le last a b c d [] h g p = let q : b ≤ last = p in omega arith
+chars_le last a b c d (x ∷ cs) h g p = let q : a ≤ x.line = p.0 in let r : b ≤ x.line = p.1 in
     (omega arith, omega arith, p.2, p.3)
 
-pub chars-drop : (last a b n : ℕ) (cs : List Character) → Chars last a b cs → Chars last a b (drop n cs)
-chars-drop last a b zero [] p = p
-chars-drop last a b (suc n) [] p = p
-chars-drop last a b zero (c ∷ cs) p = p
-chars-drop last a b (suc n) (c ∷ cs) p =
+pub chars_drop : (last a b n : ℕ) (cs : List Character) → Chars last a b cs → Chars last a b (drop n cs)
+chars_drop last a b zero [] p = p
+chars_drop last a b (suc n) [] p = p
+chars_drop last a b zero (c ∷ cs) p = p
+chars_drop last a b (suc n) (c ∷ cs) p =
     let q : a ≤ c.line = p.0 in
     let r : b ≤ c.line = p.1 in
-    let s : c.line ≤ line_after c.byte c.line = line_after-more c.byte c.line in
+    let s : c.line ≤ line_after c.byte c.line = line_after_more c.byte c.line in
     let g : a ≤ line_after c.byte c.line = omega arith in
-    chars-le last (line_after c.byte c.line) c.line a b (drop n cs) g r
-    (chars-drop last (line_after c.byte c.line) c.line n cs p.3)
+    chars_le last (line_after c.byte c.line) c.line a b (drop n cs) g r
+    (chars_drop last (line_after c.byte c.line) c.line n cs p.3)
 
-pub chars-end : (last a b : ℕ) (cs : List Character) → Chars last a b cs → b ≤ last
-chars-end last a b [] p = p
-chars-end last a b (c ∷ cs) p =
+pub chars_end : (last a b : ℕ) (cs : List Character) → Chars last a b cs → b ≤ last
+chars_end last a b [] p = p
+chars_end last a b (c ∷ cs) p =
     let r : b ≤ c.line = p.1 in
-    let s : c.line ≤ last = chars-end last (line_after c.byte c.line) c.line cs p.3 in
+    let s : c.line ≤ last = chars_end last (line_after c.byte c.line) c.line cs p.3 in
     omega arith
 
-bytes-take : (last a b n : ℕ) (cs : List Character) → Chars last a b cs → Bytes (map byte_of (take n cs))
-bytes-take last a b zero [] p = All-nil (λ x. x < 256)
-bytes-take last a b (suc n) [] p = All-nil (λ x. x < 256)
-bytes-take last a b zero (c ∷ cs) p = All-nil (λ x. x < 256)
-bytes-take last a b (suc n) (c ∷ cs) p = All-cons (λ x. x < 256) c.byte (map byte_of (take n cs)) p.2
-    (bytes-take last (line_after c.byte c.line) c.line n cs p.3)
+bytes_take : (last a b n : ℕ) (cs : List Character) → Chars last a b cs → Bytes (map byte_of (take n cs))
+bytes_take last a b zero [] p = All-nil (λ x. x < 256)
+bytes_take last a b (suc n) [] p = All-nil (λ x. x < 256)
+bytes_take last a b zero (c ∷ cs) p = All-nil (λ x. x < 256)
+bytes_take last a b (suc n) (c ∷ cs) p = All-cons (λ x. x < 256) c.byte (map byte_of (take n cs)) p.2
+    (bytes_take last (line_after c.byte c.line) c.line n cs p.3)
 
 -- ---- bytes of strings
 
@@ -182,22 +182,22 @@ byte_or : (p : Bool) (b : ℕ) → b < 256 → (if p then 10 else b) < 256
 byte_or true b h = omega arith
 byte_or false b h = h
 
-line_ends-bytes : (bs : List ℕ) → Bytes bs → Bytes (line_ends bs)
-line_ends-bytes [] h = h
-line_ends-bytes (b ∷ []) h = All-cons (λ x. x < 256) (if b == 13 then 10 else b) []
+line_ends_bytes : (bs : List ℕ) → Bytes bs → Bytes (line_ends bs)
+line_ends_bytes [] h = h
+line_ends_bytes (b ∷ []) h = All-cons (λ x. x < 256) (if b == 13 then 10 else b) []
     (byte_or (b == 13) b (All-head (λ x. x < 256) b [] h)) (All-nil (λ x. x < 256))
-line_ends-bytes (b ∷ c ∷ bs) h =
+line_ends_bytes (b ∷ c ∷ bs) h =
     let t = All-tail (λ x. x < 256) b (c ∷ bs) h in
     let u = All-tail (λ x. x < 256) c bs t in
     let small : 10 < 256 = omega arith in
     list_if (b == 13) _ _
-    (list_if (c == 10) _ _ (All-cons (λ x. x < 256) 10 (line_ends bs) small (line_ends-bytes bs u))
-    (All-cons (λ x. x < 256) 10 (line_ends (c ∷ bs)) small (line_ends-bytes (c ∷ bs) t)))
-    (All-cons (λ x. x < 256) b (line_ends (c ∷ bs)) (All-head (λ x. x < 256) b (c ∷ bs) h) (line_ends-bytes (c ∷ bs) t))
+    (list_if (c == 10) _ _ (All-cons (λ x. x < 256) 10 (line_ends bs) small (line_ends_bytes bs u))
+    (All-cons (λ x. x < 256) 10 (line_ends (c ∷ bs)) small (line_ends_bytes (c ∷ bs) t)))
+    (All-cons (λ x. x < 256) b (line_ends (c ∷ bs)) (All-head (λ x. x < 256) b (c ∷ bs) h) (line_ends_bytes (c ∷ bs) t))
 
-unescaped-bytes : (raw : Bool) (bs : List ℕ) → Bytes bs → MaybeBytes (unescaped raw bs)
-unescaped-bytes raw bs h = bytes_if raw _ _ (line_ends-bytes bs h)
-    (spelled_bytes 0 (line_ends bs) (line_ends-bytes bs h))
+unescaped_bytes : (raw : Bool) (bs : List ℕ) → Bytes bs → MaybeBytes (unescaped raw bs)
+unescaped_bytes raw bs h = bytes_if raw _ _ (line_ends_bytes bs h)
+    (spelled_bytes 0 (line_ends bs) (line_ends_bytes bs h))
 
 -- ---- what is read at the front
 
@@ -229,7 +229,7 @@ module _ (last a b : ℕ) where
   good_suffixed : (line : ℕ) (base : Base) (digits rest : List Character) → Chars last a b rest →
       ReadGood last a b (suffixed line base digits rest)
   good_suffixed line base digits rest h =
-      read_if (next_is (class.Letter 108) rest) last a b _ _ (tt, tt, chars-drop last a b 1 rest h)
+      read_if (next_is (class.Letter 108) rest) last a b _ _ (tt, tt, chars_drop last a b 1 rest h)
       (good_int line (digits_value (base_of base) (map byte_of digits)) rest h)
 
   good_prefixed : (line : ℕ) (base : Base) (cs : List Character) → Chars last a b cs →
@@ -237,31 +237,31 @@ module _ (last a b : ℕ) where
   good_prefixed line base cs h =
       read_if (next_is (class.Digit base) cs) last a b _ _
       (good_suffixed line base (run (class.Digit base) cs) (after (class.Digit base) cs)
-      (chars-drop last a b (run_len (class.Digit base) cs) cs h)) tt
+      (chars_drop last a b (run_len (class.Digit base) cs) cs h)) tt
 
   good_float : (cs : List Character) → Chars last a b cs → ReadGood last a b (float cs)
   good_float cs h = (
     tt,
     tt,
     chars_if (next_is (class.Letter 106) cs) last a b (drop 1 cs) cs
-        (chars-drop last a b 1 cs h) h,
+        (chars_drop last a b 1 cs h) h,
   )
 
-  chars-after : (cs : List Character) → Chars last a b cs → Chars last a b (after ten cs)
-  chars-after cs h = chars-drop last a b (run_len ten cs) cs h
+  chars_after : (cs : List Character) → Chars last a b cs → Chars last a b (after ten cs)
+  chars_after cs h = chars_drop last a b (run_len ten cs) cs h
 
-  chars-point : (cs : List Character) → Chars last a b cs → Chars last a b (after_point cs)
-  chars-point cs h = chars_if (next_is (class.Byte 46) cs) last a b _ _
-      (chars-after (drop 1 cs) (chars-drop last a b 1 cs h)) h
+  chars_point : (cs : List Character) → Chars last a b cs → Chars last a b (after_point cs)
+  chars_point cs h = chars_if (next_is (class.Byte 46) cs) last a b _ _
+      (chars_after (drop 1 cs) (chars_drop last a b 1 cs h)) h
 
-  chars-exponent : (cs : List Character) → Chars last a b cs → Chars last a b (after_exponent cs)
-  chars-exponent cs h =
-      let one = chars-drop last a b 1 cs h in
-      let two = chars-drop last a b 1 (drop 1 cs) one in
+  chars_exponent : (cs : List Character) → Chars last a b cs → Chars last a b (after_exponent cs)
+  chars_exponent cs h =
+      let one = chars_drop last a b 1 cs h in
+      let two = chars_drop last a b 1 (drop 1 cs) one in
       chars_if (next_is (class.Letter 101) cs) last a b _ _
-      (chars_if (next_is ten (drop 1 cs)) last a b _ _ (chars-after (drop 1 cs) one)
+      (chars_if (next_is ten (drop 1 cs)) last a b _ _ (chars_after (drop 1 cs) one)
       (chars_if (next_is class.Sign (drop 1 cs) && next_is ten (drop 1 (drop 1 cs))) last a b _ _
-      (chars-after (drop 1 (drop 1 cs)) two) h))
+      (chars_after (drop 1 (drop 1 cs)) two) h))
       h
 
   good_whole : (line : ℕ) (digits rest : List Character) → Chars last a b rest →
@@ -276,10 +276,10 @@ module _ (last a b : ℕ) where
   good_unprefixed : (line : ℕ) (cs : List Character) → Chars last a b cs → ReadGood last a b (unprefixed line cs)
   good_unprefixed line cs h =
       let rest = after ten cs in
-      let g = chars-after cs h in
+      let g = chars_after cs h in
       let more = after_exponent (after_point rest) in
       read_if (nat_lt (length more) (length rest)) last a b _ _
-      (good_float more (chars-exponent (after_point rest) (chars-point rest g)))
+      (good_float more (chars_exponent (after_point rest) (chars_point rest g)))
       (read_if (next_is (class.Letter 106) rest) last a b _ _ (good_float rest g) (good_whole line (run ten cs) rest g))
 
   pub good_number : (line : ℕ) (cs : List Character) → Chars last a b cs → ReadGood last a b (number_at line cs)
@@ -287,7 +287,7 @@ module _ (last a b : ℕ) where
   good_number line cs h =
       let one = drop 1 cs in
       let two = drop 1 one in
-      let g = chars-drop last a b 1 one (chars-drop last a b 1 cs h) in
+      let g = chars_drop last a b 1 one (chars_drop last a b 1 cs h) in
       read_if (next_is (class.Byte 48) cs) last a b _ _
       (read_if (next_is (class.Letter 120) one) last a b _ _ (good_prefixed line Sixteen two g)
       (read_if (next_is (class.Letter 98) one) last a b _ _ (good_prefixed line Two two g)
@@ -305,10 +305,10 @@ module _ (last a b : ℕ) where
   good_literal line p q body rest (Some bad) m h = tt
   good_literal line p q body rest None m h =
       let inner = drop (quotes_len q) rest in
-      let g = chars-drop last a b (quotes_len q) rest h in
+      let g = chars_drop last a b (quotes_len q) rest h in
       read_if (quotes q rest) last a b _ _
       (read_if p.unicode last a b _ _ (tt, tt, g)
-      (good_text line (unescaped p.raw (map byte_of body)) inner (unescaped-bytes p.raw (map byte_of body) m) g)) tt
+      (good_text line (unescaped p.raw (map byte_of body)) inner (unescaped_bytes p.raw (map byte_of body) m) g)) tt
 
   pub good_string : (line : ℕ) (p : Prefix) (cs : List Character) → Chars last a b cs →
       ReadGood last a b (string_at line p cs)
@@ -316,35 +316,35 @@ module _ (last a b : ℕ) where
   good_string line p cs h =
       let q = quotes_at cs in
       let inner = drop (quotes_len q) cs in
-      let g = chars-drop last a b (quotes_len q) cs h in
+      let g = chars_drop last a b (quotes_len q) cs h in
       let n = body_len q false inner in
       good_literal line p q (take n inner) (drop n inner) (escape_fault p (take n inner))
-      (bytes-take last a b n inner g) (chars-drop last a b n inner g)
+      (bytes_take last a b n inner g) (chars_drop last a b n inner g)
 
 -- ---- names
 
-number-or : (p : Bool) (w : List ℕ × ℕ) (table : List (List ℕ × ℕ)) (r : Option ℕ) (n : ℕ) →
+number_or : (p : Bool) (w : List ℕ × ℕ) (table : List (List ℕ × ℕ)) (r : Option ℕ) (n : ℕ) →
     (r ≡ Some n → has_number table n ≡ true) → (if p then Some w.1 else r) ≡ Some n → has_number (w ∷ table) n ≡ true
-number-or true w table r n f e = let same : w.1 ≡ n = cc in or_first (w.1 == n) (has_number table n) (eq-eqb w.1 n same)
-number-or false w table r n f e = or_second (w.1 == n) (has_number table n) (f e)
+number_or true w table r n f e = let same : w.1 ≡ n = cc in or_first (w.1 == n) (has_number table n) (eq-eqb w.1 n same)
+number_or false w table r n f e = or_second (w.1 == n) (has_number table n) (f e)
 
-word_number-has : (table : List (List ℕ × ℕ)) (name : List ℕ) (n : ℕ) → word_number table name ≡ Some n →
+word_number_has : (table : List (List ℕ × ℕ)) (name : List ℕ) (n : ℕ) → word_number table name ≡ Some n →
     has_number table n ≡ true
-word_number-has [] name n e = absurd (cc)
-word_number-has (w ∷ ws) name n e = number-or (bytes_eq w.0 name) w ws (word_number ws name) n
-    (word_number-has ws name n) e
+word_number_has [] name n e = absurd (cc)
+word_number_has (w ∷ ws) name n e = number_or (bytes_eq w.0 name) w ws (word_number ws name) n
+    (word_number_has ws name n) e
 
-operator-or : (p : Bool) (w : List ℕ × ℕ) (table : List (List ℕ × ℕ)) (r : Option (ℕ × ℕ)) (o : ℕ × ℕ) →
+operator_or : (p : Bool) (w : List ℕ × ℕ) (table : List (List ℕ × ℕ)) (r : Option (ℕ × ℕ)) (o : ℕ × ℕ) →
     (r ≡ Some o → has_number table o.0 ≡ true) → (if p then Some (w.1, length w.0) else r) ≡ Some o →
     has_number (w ∷ table) o.0 ≡ true
-operator-or true w table r o f e = let pair : (w.1, length w.0) ≡ o = cc in
+operator_or true w table r o f e = let pair : (w.1, length w.0) ≡ o = cc in
     or_first (w.1 == o.0) (has_number table o.0) (eq-eqb w.1 o.0 (ap (λ z. z.0) pair))
-operator-or false w table r o f e = or_second (w.1 == o.0) (has_number table o.0) (f e)
+operator_or false w table r o f e = or_second (w.1 == o.0) (has_number table o.0) (f e)
 
-pub operator_at-has : (table : List (List ℕ × ℕ)) (cs : List Character) (o : ℕ × ℕ) → operator_at table cs ≡ Some o →
+pub operator_at_has : (table : List (List ℕ × ℕ)) (cs : List Character) (o : ℕ × ℕ) → operator_at table cs ≡ Some o →
     has_number table o.0 ≡ true
-operator_at-has [] cs o e = absurd (cc)
-operator_at-has (w ∷ ws) cs o e = operator-or (begins w.0 cs) w ws (operator_at ws cs) o (operator_at-has ws cs o) e
+operator_at_has [] cs o e = absurd (cc)
+operator_at_has (w ∷ ws) cs o e = operator_or (begins w.0 cs) w ws (operator_at ws cs) o (operator_at_has ws cs o) e
 
 take_if : (p : Bool) (n : ℕ) (c : Character) (cs : List Character) → p ≡ true →
     take (cond p (1 + n) 0) (c ∷ cs) ≡ c ∷ take n cs
@@ -384,7 +384,7 @@ name_in_line None name = tt
 
 name_kept : (o : Option ℕ) (name : List ℕ) → word_number keywords name ≡ o → is_name name ≡ true →
     IsKept (name_kind o name)
-name_kept (Some n) name e h = word_number-has keywords name n e
+name_kept (Some n) name e h = word_number_has keywords name n e
 name_kept None name e h = (h, e)
 
 good_named : (last a b line : ℕ) (name rest : List Character) (o : Option Prefix) → is_name (map byte_of name) ≡ true →
@@ -404,4 +404,4 @@ good_name last a b line c cs e h =
     let rest = after class.Name all in
     good_named last a b line (run class.Name all) rest
     (if next_is class.Quote rest then prefix_of (run class.Name all) else None) (name_is c cs e)
-    (chars-drop last a b (run_len class.Name all) all h)
+    (chars_drop last a b (run_len class.Name all) all h)

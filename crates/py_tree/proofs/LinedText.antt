@@ -24,8 +24,8 @@ use Rattle.py_tokens.specs.Layout.{lines, lines_laid, tokens_in, joined, after_b
 use Rattle.py_tokens.specs.Tokens.{to_come, took, depth_of}
 use Rattle.py_tokens.proofs.InOrder.{IsInLine}
 use Rattle.py_tokens.proofs.Laying.{follows_opens, follows_closes, follows_plain}
-use Rattle.py_tree.proofs.Lined.{lined_kind, IsLined, lined-le, IsKept, AllKept}
-use Rattle.py_tree.proofs.LinedKinds.{Bytes, Chars, chars-le, chars-drop, chars-end, line_after-more, ReadGood, good_name, good_number, good_string, operator_at-has}
+use Rattle.py_tree.proofs.Lined.{lined_kind, IsLined, lined_le, IsKept, AllKept}
+use Rattle.py_tree.proofs.LinedKinds.{Bytes, Chars, chars_le, chars_drop, chars_end, line_after_more, ReadGood, good_name, good_number, good_string, operator_at_has}
 
 -- ---- words
 
@@ -44,19 +44,19 @@ WordsLined last stop a b (Closes t ∷ ws) =
 WordsLined last stop a b (Plain t ∷ ws) = (a ≤ t.line) × (b ≤ t.line) × IsInLine t.kind × (stop ≡ None → IsKept t.kind)
     × WordsLined last stop t.line t.line ws
 
-words-le : (last : ℕ) (stop : Option Refusal) (a b c d : ℕ) (ws : List Word) → c ≤ a → d ≤ b →
+words_le : (last : ℕ) (stop : Option Refusal) (a b c d : ℕ) (ws : List Word) → c ≤ a → d ≤ b →
     WordsLined last stop a b ws → WordsLined last stop c d ws
-words-le last stop a b c d [] h g p = let q : b ≤ last = p in omega arith
-words-le last stop a b c d (Blank x ∷ ws) h g p = words-le last stop a b c d ws h g p
-words-le last stop a b c d (Comment ∷ ws) h g p = words-le last stop a b c d ws h g p
-words-le last stop a b c d (Joint e ∷ ws) h g p = words-le last stop a b c d ws h g p
-words-le last stop a b c d (LineEnd e ∷ ws) h g p = let q : a ≤ e.line = p.0 in let r : b ≤ e.line = p.1 in
+words_le last stop a b c d [] h g p = let q : b ≤ last = p in omega arith
+words_le last stop a b c d (Blank x ∷ ws) h g p = words_le last stop a b c d ws h g p
+words_le last stop a b c d (Comment ∷ ws) h g p = words_le last stop a b c d ws h g p
+words_le last stop a b c d (Joint e ∷ ws) h g p = words_le last stop a b c d ws h g p
+words_le last stop a b c d (LineEnd e ∷ ws) h g p = let q : a ≤ e.line = p.0 in let r : b ≤ e.line = p.1 in
     (omega arith, omega arith, p.2)
-words-le last stop a b c d (Opens t ∷ ws) h g p = let q : a ≤ t.line = p.0 in let r : b ≤ t.line = p.1 in
+words_le last stop a b c d (Opens t ∷ ws) h g p = let q : a ≤ t.line = p.0 in let r : b ≤ t.line = p.1 in
     (omega arith, omega arith, p.2, p.3, p.4)
-words-le last stop a b c d (Closes t ∷ ws) h g p = let q : a ≤ t.line = p.0 in let r : b ≤ t.line = p.1 in
+words_le last stop a b c d (Closes t ∷ ws) h g p = let q : a ≤ t.line = p.0 in let r : b ≤ t.line = p.1 in
     (omega arith, omega arith, p.2, p.3, p.4)
-words-le last stop a b c d (Plain t ∷ ws) h g p = let q : a ≤ t.line = p.0 in let r : b ≤ t.line = p.1 in
+words_le last stop a b c d (Plain t ∷ ws) h g p = let q : a ≤ t.line = p.0 in let r : b ≤ t.line = p.1 in
     (omega arith, omega arith, p.2, p.3, p.4)
 
 -- a word, before any words on lines after it
@@ -97,8 +97,8 @@ good_operator last a b size c all None e h g p = tt
 good_operator last a b size c all (Some o) e h g p =
     let rest = drop o.1 all in
     good_bracketed last a b o.0 (token_at (k.Op o.0) (place_before size c rest)) rest
-    (good_plain last a b size c (k.Op o.0) rest h g tt (operator_at-has operators all o e)
-    (chars-drop last c.line c.line o.1 all p))
+    (good_plain last a b size c (k.Op o.0) rest h g tt (operator_at_has operators all o e)
+    (chars_drop last c.line c.line o.1 all p))
 
 good_word : (last a b size : ℕ) (c : Character) (cs : List Character) → Chars last a b (c ∷ cs) →
     PieceGood last a b (word_at size (c ∷ cs))
@@ -107,11 +107,11 @@ good_word last a b size c cs p =
     let all = c ∷ cs in
     let first : a ≤ c.line = p.0 in
     let second : b ≤ c.line = p.1 in
-    let more : c.line ≤ line_after c.byte c.line = line_after-more c.byte c.line in
+    let more : c.line ≤ line_after c.byte c.line = line_after_more c.byte c.line in
     let same : c.line ≤ c.line = omega arith in
     let up : a ≤ line_after c.byte c.line = omega arith in
     let here : Chars last c.line c.line (c ∷ cs) = (same, same, p.2, p.3) in
-    let later : Chars last a b cs = chars-le last (line_after c.byte c.line) c.line a b cs up second p.3 in
+    let later : Chars last a b cs = chars_le last (line_after c.byte c.line) c.line a b cs up second p.3 in
     piece_when (c.byte == 10) last a b _ _
     (λ e stop ws go. (
       first,
@@ -121,10 +121,10 @@ good_word last a b size c cs p =
     ))
     (λ e1. piece_when (holds class.Blank c.byte) last a b _ _ (λ e stop ws go. go a b later)
     (λ e2. piece_when (c.byte == 35) last a b _ _
-    (λ e stop ws go. go a b (chars-drop last a b (run_len class.InLine cs) cs later))
+    (λ e stop ws go. go a b (chars_drop last a b (run_len class.InLine cs) cs later))
     (λ e3. piece_when (c.byte == 92) last a b _ _
     (λ e. piece_when (next_is (class.Byte 10) cs) last a b _ _
-    (λ f stop ws go. go a b (chars-drop last a b 1 cs later)) (λ f. tt))
+    (λ f stop ws go. go a b (chars_drop last a b 1 cs later)) (λ f. tt))
     (λ e4. piece_when (holds class.NameStart c.byte) last a b _ _
     (λ e. good_token last a b size c (name_at c.line all) first second
     (good_name last c.line c.line c.line c cs e here))
@@ -139,7 +139,7 @@ good_word last a b size c cs p =
 pub cut_lined : (last n size a b : ℕ) (cs : List Character) → Chars last a b cs →
     WordsLined last (cut n size cs).stop a b (cut n size cs).words
 unfolding cut
-cut_lined last zero size a b cs p = chars-end last a b cs p
+cut_lined last zero size a b cs p = chars_end last a b cs p
 cut_lined last (suc n) size a b [] p = p
 cut_lined last (suc n) size a b (c ∷ cs) p = go (word_at size (c ∷ cs)) (good_word last a b size c cs p)
     (λ rest d e q. cut_lined last n size d e rest q)
@@ -149,7 +149,7 @@ cut_lined last (suc n) size a b (c ∷ cs) p = go (word_at size (c ∷ cs)) (goo
         WordsLined last (cut n size rest).stop d e (cut n size rest).words) →
         WordsLined last (cut_more c (cut n size) r).stop a b (cut_more c (cut n size) r).words
     go (Ok w) good more = good (cut n size w.1).stop (cut n size w.1).words (more w.1)
-    go (Err e) good more = (p.0, p.1, tt, (λ e. absurd (cc)), chars-end last (line_after c.byte c.line) c.line cs p.3)
+    go (Err e) good more = (p.0, p.1, tt, (λ e. absurd (cc)), chars_end last (line_after c.byte c.line) c.line cs p.3)
 
 -- ---- what is laid
 
@@ -196,9 +196,9 @@ laid_if : (p : Bool) (stop : Option Refusal) (a : ℕ) (r s : Laid) → Good sto
 laid_if true stop a r s h g = h
 laid_if false stop a r s h g = g
 
-good-le : (stop : Option Refusal) (a b : ℕ) (r : Laid) → a ≤ b → Good stop b r → Good stop a r
-good-le stop a b (Ok ts) h g = (g.0, lined-le ts a b h g.1, g.2)
-good-le stop a b (Err e) h g = tt
+good_le : (stop : Option Refusal) (a b : ℕ) (r : Laid) → a ≤ b → Good stop b r → Good stop a r
+good_le stop a b (Ok ts) h g = (g.0, lined_le ts a b h g.1, g.2)
+good_le stop a b (Err e) h g = tt
 
 good_popped : (stop : Option Refusal) (a : ℕ) (p : Place) (column : ℕ) (stack : List ℕ) (rest : List ℕ → Laid) →
     ((s : List ℕ) → Good stop a (rest s)) → Good stop a (popped p column stack rest)
@@ -283,19 +283,19 @@ good_to_come size last stop (Within d) stack a b (Joint q ∷ ws) f p =
     good_to_come size last stop (Within d) stack a b ws f p
 good_to_come size last stop (Fresh c) stack a b (LineEnd e ∷ ws) f p = let h : a ≤ e.line = p.0 in
     let g : a ≤ e.line + 1 = omega arith in
-    good-le stop a (e.line + 1) _ g (good_to_come size last stop (Fresh 0) stack (e.line + 1) e.line ws tt p.2)
+    good_le stop a (e.line + 1) _ g (good_to_come size last stop (Fresh 0) stack (e.line + 1) e.line ws tt p.2)
 good_to_come size last stop (Held c q) stack a b (LineEnd e ∷ ws) f p =
     let h : a ≤ e.line = p.0 in
     let g : a ≤ e.line + 1 = omega arith in
-    good-le stop a (e.line + 1) _ g (good_to_come size last stop (Fresh 0) stack (e.line + 1) e.line ws tt p.2)
+    good_le stop a (e.line + 1) _ g (good_to_come size last stop (Fresh 0) stack (e.line + 1) e.line ws tt p.2)
 good_to_come size last stop (Within d) stack a b (LineEnd e ∷ ws) f p =
     let h : a ≤ e.line = p.0 in
     let g : e.line ≤ e.line + 1 = omega arith in
     let s : e.line ≤ e.line = omega arith in
     within_cases (d == 0) (place size size last) stop d stack e ws a
     (good_newline stop a e _ h (good_to_come size last stop (Fresh 0) stack (e.line + 1) e.line ws tt p.2))
-    (good-le stop a e.line _ h (good_to_come size last stop (Within d) stack e.line e.line ws s
-    (words-le last stop (e.line + 1) e.line e.line e.line ws g s p.2)))
+    (good_le stop a e.line _ h (good_to_come size last stop (Within d) stack e.line e.line ws s
+    (words_le last stop (e.line + 1) e.line e.line e.line ws g s p.2)))
 good_to_come size last stop m stack a b (Opens t ∷ ws) f p = let s : t.line ≤ t.line = omega arith in
     subst (Good stop a) (sym (follows_opens m t (place size size last) stop ws stack))
     (good_took stop a t m stack _ p.2 p.3 p.0
@@ -311,8 +311,8 @@ good_to_come size last stop m stack a b (Plain t ∷ ws) f p = let s : t.line �
 
 -- ---- characters of a text
 
-byte-line_end : (b : ℕ) → b < 256 → line_end b < 256
-byte-line_end b h = go (b == 13)
+byte_line_end : (b : ℕ) → b < 256 → line_end b < 256
+byte_line_end b h = go (b == 13)
   where
     go : (p : Bool) → (if p then 10 else b) < 256
     go true = omega arith
@@ -324,32 +324,32 @@ chars_cases : (p : Bool) (last a b : ℕ) (xs ys : List Character) → (last ≡
 chars_cases true last a b xs ys f g e = f e
 chars_cases false last a b xs ys f g e = g e
 
-chars-characters : (last at line b : ℕ) (bs : List ℕ) → b ≤ line → Bytes bs →
+chars_characters : (last at line b : ℕ) (bs : List ℕ) → b ≤ line → Bytes bs →
     last ≡ last_line b (characters at line bs) → Chars last line b (characters at line bs)
-chars-characters last at line b [] h m e = omega arith
-chars-characters last at line b (x ∷ []) h m e = let s : line ≤ line = omega arith in let q : line ≤ last =
-    omega arith in (s, h, byte-line_end x (All-head (λ z. z < 256) x [] m), q)
-chars-characters last at line b (x ∷ y ∷ bs) h m e =
+chars_characters last at line b [] h m e = omega arith
+chars_characters last at line b (x ∷ []) h m e = let s : line ≤ line = omega arith in let q : line ≤ last =
+    omega arith in (s, h, byte_line_end x (All-head (λ z. z < 256) x [] m), q)
+chars_characters last at line b (x ∷ y ∷ bs) h m e =
     let s : line ≤ line = omega arith in
     let small : 10 < 256 = omega arith in
     let more : line ≤ line + 1 = omega arith in
     let t = All-tail (λ z. z < 256) x (y ∷ bs) m in
     chars_cases (x == 13 && y == 10) last line b _ _
-    (λ f. (s, h, small, chars-characters last (at + 2) (line + 1) line bs more (All-tail (λ z. z < 256) y bs t) f))
+    (λ f. (s, h, small, chars_characters last (at + 2) (line + 1) line bs more (All-tail (λ z. z < 256) y bs t) f))
     (λ f. (
       s,
       h,
-      byte-line_end x (All-head (λ z. z < 256) x (y ∷ bs) m),
-      chars-characters last (at + 1) (line_after (line_end x) line) line (y ∷ bs) (line_after-more (line_end x) line)
+      byte_line_end x (All-head (λ z. z < 256) x (y ∷ bs) m),
+      chars_characters last (at + 1) (line_after (line_end x) line) line (y ∷ bs) (line_after_more (line_end x) line)
           t f,
     ))
     e
 
 bytes_cases : (p : Bool) (text : List ℕ) → Bytes text →
     (let cs = if p then characters 3 1 (drop 3 text) else characters 0 1 text in Chars (last_line 1 cs) 1 1 cs)
-bytes_cases true text m = let s : 1 ≤ 1 = omega arith in chars-characters (last_line 1 (characters 3 1 (drop 3 text)))
+bytes_cases true text m = let s : 1 ≤ 1 = omega arith in chars_characters (last_line 1 (characters 3 1 (drop 3 text)))
     3 1 1 (drop 3 text) s (All-drop (λ z. z < 256) 3 text m) refl
-bytes_cases false text m = let s : 1 ≤ 1 = omega arith in chars-characters (last_line 1 (characters 0 1 text)) 0 1 1
+bytes_cases false text m = let s : 1 ≤ 1 = omega arith in chars_characters (last_line 1 (characters 0 1 text)) 0 1 1
     text s m refl
 
 chars_text : (text : List ℕ) → Bytes text → Chars (last_line 1 (text_characters text)) 1 1 (text_characters text)

@@ -30,9 +30,9 @@ pub spell_append : (line : ℕ) (w : Writer) (ks ms : Words) → spell line w (k
 spell_append line w [] ms = refl
 spell_append line w (k ∷ ks) ms = spell_append line (put w (lexeme k line)) ks ms
 
-pub put_all-append : (w : Writer) (ls ms : List Lexeme) → put_all w (ls ++ ms) ≡ put_all (put_all w ls) ms
-put_all-append w [] ms = refl
-put_all-append w (l ∷ ls) ms = put_all-append (put w l) ls ms
+pub put_all_append : (w : Writer) (ls ms : List Lexeme) → put_all w (ls ++ ms) ≡ put_all (put_all w ls) ms
+put_all_append w [] ms = refl
+put_all_append w (l ∷ ls) ms = put_all_append (put w l) ls ms
 
 -- ---- loops over items
 
@@ -64,9 +64,9 @@ all_more f line w u total xs i x l e q h =
 
 -- ---- lists in brackets
 
-led-append : (k : TokenKind) (xs ys : List Words) → led k (xs ++ ys) ≡ led k xs ++ led k ys
-led-append k [] ys = refl
-led-append k (x ∷ xs) ys = ap (λ z. k ∷ z) (ap (λ z. x ++ z) (led-append k xs ys) ∙
+led_append : (k : TokenKind) (xs ys : List Words) → led k (xs ++ ys) ≡ led k xs ++ led k ys
+led_append k [] ys = refl
+led_append k (x ∷ xs) ys = ap (λ z. k ∷ z) (ap (λ z. x ++ z) (led_append k xs ys) ∙
     sym (append_assoc x (led k xs) (led k ys)))
 
 both_lists : {X : Type 0} (f : X → Words) (xs : List X) (ys : List Words) →
@@ -74,7 +74,7 @@ both_lists : {X : Type 0} (f : X → Words) (xs : List X) (ys : List Words) →
 both_lists f [] ys = refl
 both_lists f (x ∷ xs) ys =
     rw (ne_eqb (suc (length xs)) 0 (λ e. omega arith))
-    (ap (λ z. f x ++ z) (led-append (k.Op operator.COMMA) (map f xs) ys) ∙
+    (ap (λ z. f x ++ z) (led_append (k.Op operator.COMMA) (map f xs) ys) ∙
     sym (append_assoc (f x) (led (k.Op operator.COMMA) (map f xs)) (led (k.Op operator.COMMA) ys)))
 
 lone : {X : Type 0} (f : X → Words) (xs : List X) → tuple_words (map f xs) ≡ commas (map f xs) ++ comma_if

@@ -18,14 +18,14 @@ use Rattle.py_tree.specs.Canonical.{Piece, Simple, Compound, on, ending, in_orde
 use Rattle.py_tree.specs.inner.Clauses.{lexemes_arm, lexemes_arms, lexemes_if, lexemes_clause, lexemes_clause_or, lexemes_handler, lexemes_handlers, simple_line, piece_lexemes, joint, resumed}
 use Rattle.py_tree.specs.inner.Page.{pen_of, put, put_all, spell}
 use Rattle.py_tree.specs.Writing.{Pen, mark, moved, written, first_pen}
-use Rattle.py_tree.proofs.Pages.{spell_append, put_all-append}
+use Rattle.py_tree.proofs.Pages.{spell_append, put_all_append}
 use Rattle.py_tree.proofs.Pieces.{piece_laws, piece_for, piece_try}
 
 pub on_spelled : (line : ℕ) (w : Writer) (ks : Words) → put_all w (on line ks) ≡ spell line w ks
 on_spelled line w [] = refl
 on_spelled line w (k ∷ ks) = on_spelled line (put w (lexeme k line)) ks
 
-pub ruleset sheet_laws = (piece_laws, on_spelled, put_all-append, spell_append)
+pub ruleset sheet_laws = (piece_laws, on_spelled, put_all_append, spell_append)
 
 -- ---- the text
 
@@ -68,8 +68,8 @@ resumed_one short open' w v u total xs i x l e p q h =
     let before = joint short open' (simple_line (piece x)) in
     let rest = resumed short (simple_line (piece x)) (pieces (drop (i + 1) xs)) in
     ap (λ z. put_all z rest) (q ∙ ap (λ z. put_all z now) p)
-    ∙ (sym (put_all-append (put_all w before) now rest)
-    ∙ (sym (put_all-append w before (now ++ rest))
+    ∙ (sym (put_all_append (put_all w before) now rest)
+    ∙ (sym (put_all_append w before (now ++ rest))
     ∙ (sym (ap (put_all w) (ap (λ z. resumed short open' (pieces z)) (next_item xs i x l e) ∙
     resumed_cons short open' (piece x) (pieces (drop (i + 1) xs)))) ∙ h)))
 
@@ -102,7 +102,7 @@ arms_more word w u total xs i x l e q h =
     let rest = drop (i + 1) xs in
     sym (ap (put_all u) (arms_next rest))
     ∙ (ap (λ z. put_all z (lexemes_arms (k.Keyword keyword.ELIF) rest)) q
-    ∙ (sym (put_all-append w (lexemes_arm (k.Keyword word) x) (lexemes_arms (k.Keyword keyword.ELIF) rest))
+    ∙ (sym (put_all_append w (lexemes_arm (k.Keyword word) x) (lexemes_arms (k.Keyword keyword.ELIF) rest))
     ∙ (sym (ap (λ z. put_all w (arms_from word z)) (next_item xs i x l e)) ∙ h)))
 
 -- a head with its colon
@@ -113,7 +113,7 @@ headed line w a b ks e f =
     ∙ sym (on_spelled line w (ks ++ k.Op operator.COLON ∷ []) ∙ spell_append line w ks (k.Op operator.COLON ∷ [])))
 
 pub followed : (w a b : Writer) (ls ms : List Lexeme) → a ≡ put_all w ls → b ≡ put_all a ms → b ≡ put_all w (ls ++ ms)
-followed w a b ls ms e f = f ∙ (ap (λ z. put_all z ms) e ∙ sym (put_all-append w ls ms))
+followed w a b ls ms e f = f ∙ (ap (λ z. put_all z ms) e ∙ sym (put_all_append w ls ms))
 
 pub handlers_more : (w u total : Writer) (xs : List Handler) (i : ℕ) (x : Handler) → i < length xs → x ≡ get_or xs i x
     → u ≡ put_all w (lexemes_handler x) →
@@ -121,7 +121,7 @@ pub handlers_more : (w u total : Writer) (xs : List Handler) (i : ℕ) (x : Hand
 handlers_more w u total xs i x l e q h =
     let rest = lexemes_handlers (drop (i + 1) xs) in
     ap (λ z. put_all z rest) q
-    ∙ (sym (put_all-append w (lexemes_handler x) rest)
+    ∙ (sym (put_all_append w (lexemes_handler x) rest)
     ∙ (sym (ap (λ z. put_all w (lexemes_handlers z)) (next_item xs i x l e)) ∙ h))
 
 pub handler_written : (w a b u : Writer) (h : Handler) (ss : List Stmt) → ss ≡ h.body →

@@ -45,13 +45,13 @@ quiet_byte false false true e = absurd (cc)
 quiet_byte false true r e = absurd (cc)
 quiet_byte true q r e = absurd (cc)
 
-pub plain-row : (at line : ℕ) (bs more : List ℕ) → quiet bs ≡ true →
+pub plain_row : (at line : ℕ) (bs more : List ℕ) → quiet bs ≡ true →
     plain at line (bs ++ more) ≡ row at line bs ++ plain (ahead at bs) line more
-plain-row at line [] more q = refl
-plain-row at line (b ∷ bs) more q =
+plain_row at line [] more q = refl
+plain_row at line (b ∷ bs) more q =
     let each = both (is_quiet b) (quiet bs) q in
     let h : (b == 10) ≡ false = (quiet_byte (b == 10) (b == 13) (b == 239) each.0).0 in
-    rw h (ap (λ z. character b at (at + 1) line ∷ z) (plain-row (at + 1) line bs more each.1))
+    rw h (ap (λ z. character b at (at + 1) line ∷ z) (plain_row (at + 1) line bs more each.1))
 
 -- ---- what is read
 

@@ -20,7 +20,7 @@ use Rattle.py_tokens.proofs.Stacks.{before_append, before_nothing}
 use Rattle.py_tree.specs.inner.Laid.{after_word}
 use Rattle.py_tree.specs.Lexeme.{Lexeme, lexeme, lexeme_of, line_kept}
 use Rattle.py_tree.specs.Writing.{joints}
-use Rattle.py_tree.proofs.WrittenRows.{plain, row, ahead, word_for, Spelt, plain-row}
+use Rattle.py_tree.proofs.WrittenRows.{plain, row, ahead, word_for, Spelt, plain_row}
 
 -- ---- from characters to tokens
 
@@ -181,7 +181,7 @@ module _ (size : ℕ) (last : Place) where
       let end = ahead at (b ∷ bs) in
       let rest : List Character = plain end line (32 ∷ more) in
       let t : Token = token_at kind (place at end line) in
-      subst (λ z. Comes size last m stack z (added ++ ts)) (sym (plain-row at line (b ∷ bs) (32 ∷ more) s.quiet))
+      subst (λ z. Comes size last m stack z (added ++ ts)) (sym (plain_row at line (b ∷ bs) (32 ∷ more) s.quiet))
       (comes_more size last m (Within (after_word kind (depth_of m))) stack stack' (character b at (at + 1) line)
       (row (at + 1) line bs ++ rest) rest (word_for kind t) added ts
       (s.reads size at line end (end + 1) line (plain (end + 1) line more))

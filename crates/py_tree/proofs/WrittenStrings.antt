@@ -218,10 +218,10 @@ meaning bs h = sym (ap (unescaped false) (inside (quote_of bs) (repr_body bs))) 
 
 -- ---- literals
 
-row-append : (at line : ℕ) (xs ys : List ℕ) (more : List Character) →
+row_append : (at line : ℕ) (xs ys : List ℕ) (more : List Character) →
     row at line (xs ++ ys) ++ more ≡ row at line xs ++ (row (ahead at xs) line ys ++ more)
-row-append at line [] ys more = refl
-row-append at line (x ∷ xs) ys more = ap (λ z. character x at (at + 1) line ∷ z) (row-append (at + 1) line xs ys more)
+row_append at line [] ys more = refl
+row_append at line (x ∷ xs) ys more = ap (λ z. character x at (at + 1) line ∷ z) (row_append (at + 1) line xs ys more)
 
 abbrev bare : Prefix
 bare = prefix false false
@@ -275,7 +275,7 @@ spelt_quoted q bs iq h means =
     (quote_fact (λ z. holds NameStart z ≡ false) q iq refl refl)
     (quote_fact (λ z. holds Quote z ≡ true) q iq refl refl)
     ∙ ap (token_word size c) (ap (λ z. string_at line bare (c ∷ z))
-    (row-append (at + 1) line (body q bs) (q ∷ []) (blank ∷ rest)) ∙
+    (row_append (at + 1) line (body q bs) (q ∷ []) (blank ∷ rest)) ∙
     string_row line q (at + 1) line from to later bs bs c d rest iq h refl refl means))
 
 pub spelt_string : (bs : List ℕ) → All (λ b. b < 256) bs → Spelt (k.Str bs) (repr_of bs)

@@ -29,9 +29,9 @@ is_plain b = not (b == 13) && not (b == 239)
 abbrev all_plain : List ℕ → Bool
 all_plain bs = list_all is_plain bs
 
-plain-append : (xs ys : List ℕ) → all_plain xs ≡ true → all_plain ys ≡ true → all_plain (xs ++ ys) ≡ true
-plain-append [] ys p q = q
-plain-append (x ∷ xs) ys p q = let each = both (is_plain x) (all_plain xs) p in rw each.0 (plain-append xs ys each.1 q)
+plain_append : (xs ys : List ℕ) → all_plain xs ≡ true → all_plain ys ≡ true → all_plain (xs ++ ys) ≡ true
+plain_append [] ys p q = q
+plain_append (x ∷ xs) ys p q = let each = both (is_plain x) (all_plain xs) p in rw each.0 (plain_append xs ys each.1 q)
 
 quiet_plain : (bs : List ℕ) → quiet bs ≡ true → all_plain bs ≡ true
 quiet_plain [] h = refl
@@ -40,22 +40,22 @@ quiet_plain (b ∷ bs) h =
     let e = quiet_byte (b == 10) (b == 13) (b == 239) each.0 in
     rw (e.1, e.2) (quiet_plain bs each.1)
 
-plain-replicate : (n b : ℕ) → is_plain b ≡ true → all_plain (replicate n b) ≡ true
-plain-replicate zero b h = refl
-plain-replicate (suc n) b h = rw h (plain-replicate n b h)
+plain_replicate : (n b : ℕ) → is_plain b ≡ true → all_plain (replicate n b) ≡ true
+plain_replicate zero b h = refl
+plain_replicate (suc n) b h = rw h (plain_replicate n b h)
 
 plain_joints : (n : ℕ) → all_plain (joints n) ≡ true
 plain_joints zero = refl
 plain_joints (suc n) = plain_joints n
 
 plain_gap : (fresh : Bool) (line depth to : ℕ) → all_plain (gap (pen line depth fresh) to) ≡ true
-plain_gap true line depth to = plain-append (replicate (to - line) 10) (replicate depth 32)
-    (plain-replicate (to - line) 10 refl) (plain-replicate depth 32 refl)
+plain_gap true line depth to = plain_append (replicate (to - line) 10) (replicate depth 32)
+    (plain_replicate (to - line) 10 refl) (plain_replicate depth 32 refl)
 plain_gap false line depth to = plain_joints (to - line)
 
 plain_worded : (p : Pen) (to : ℕ) (kind : TokenKind) → IsWord kind → all_plain (worded p to (spelling kind)) ≡ true
-plain_worded p to kind w = plain-append (gap p to ++ spelling kind) (32 ∷ [])
-    (plain-append (gap p to) (spelling kind) (plain_gap p.fresh p.line p.depth to)
+plain_worded p to kind w = plain_append (gap p to ++ spelling kind) (32 ∷ [])
+    (plain_append (gap p to) (spelling kind) (plain_gap p.fresh p.line p.depth to)
     (quiet_plain (spelling kind) (spelt kind w).quiet)) refl
 
 -- what is written of such lexemes, by any pen, has plain bytes
@@ -66,7 +66,7 @@ plainly_word : (p : Pen) (to line m : ℕ) (s : Stand) (kind : TokenKind) (ls : 
     IsLaid line m s ls → Plainly ls → all_plain (worded p to (spelling kind) ++ written (pen to p.depth false) ls) ≡
     true
 plainly_word p to line m s kind ls w laid more =
-    plain-append (worded p to (spelling kind)) (written (pen to p.depth false) ls) (plain_worded p to kind w)
+    plain_append (worded p to (spelling kind)) (written (pen to p.depth false) ls) (plain_worded p to kind w)
     (more (pen to p.depth false) line m s laid)
 
 plainly_one : (kind : TokenKind) (p : Pen) (at line m : ℕ) (s : Stand) (ls : List Lexeme) →
@@ -97,15 +97,15 @@ plain_byte false false e = (refl, refl)
 plain_byte false true e = absurd (cc)
 plain_byte true q e = absurd (cc)
 
-characters-plain : (at line : ℕ) (bs : List ℕ) → all_plain bs ≡ true → characters at line bs ≡ plain at line bs
-characters-plain at line [] h = refl
-characters-plain at line (b ∷ []) h = let e = plain_byte (b == 13) (b == 239) (both (is_plain b) true h).0 in
+characters_plain : (at line : ℕ) (bs : List ℕ) → all_plain bs ≡ true → characters at line bs ≡ plain at line bs
+characters_plain at line [] h = refl
+characters_plain at line (b ∷ []) h = let e = plain_byte (b == 13) (b == 239) (both (is_plain b) true h).0 in
     rw (e.0) refl
-characters-plain at line (b ∷ c ∷ bs) h =
+characters_plain at line (b ∷ c ∷ bs) h =
     let each = both (is_plain b) (all_plain (c ∷ bs)) h in
     let e = plain_byte (b == 13) (b == 239) each.0 in
     rw (e.0) (ap (λ z. character b at (at + 1) line ∷ z)
-    (characters-plain (at + 1) (line_after b line) (c ∷ bs) each.1))
+    (characters_plain (at + 1) (line_after b line) (c ∷ bs) each.1))
 
 no_mark : (bs : List ℕ) → all_plain bs ≡ true → has_mark bs ≡ false
 no_mark [] h = refl
@@ -116,7 +116,7 @@ no_mark (a ∷ b ∷ c ∷ bs) h = let e = plain_byte (a == 13) (a == 239) (both
 
 text_plain : (bs : List ℕ) → all_plain bs ≡ true → text_characters bs ≡ plain 0 1 bs
 unfolding text_characters
-text_plain bs h = skip (has_mark bs) _ _ (no_mark bs h) ∙ characters-plain 0 1 bs h
+text_plain bs h = skip (has_mark bs) _ _ (no_mark bs h) ∙ characters_plain 0 1 bs h
 
 -- ---- texts
 

@@ -1,11 +1,11 @@
 use Rattle.std.proofs.Common.{◌≡◌, ◌-◌, suc, length, refl, ap, ◌∙◌, length-drop, arith}
-use Rattle.py_tokens.proofs.CharacterLemmas.{characters_step, line_end_size-within, line_after-le}
+use Rattle.py_tokens.proofs.CharacterLemmas.{characters_step, line_end_size_within, line_after_le}
 use Rattle.py_tokens.proofs.character.characters.Goals as goal
 
 pub loop-b-preserved : goal.loop-b-preserved
 loop-b-preserved c =
-    let within = line_end_size-within c.in-Some.b.now c.in-Some.more.now in
-    let lines = line_after-le c.line_end-byte.result c.loop-b.line in
+    let within = line_end_size_within c.in-Some.b.now c.in-Some.more.now in
+    let lines = line_after_le c.line_end-byte.result c.loop-b.line in
     let size = c.line_end_size-size.ensures in
     let long : length c.loop-b.rest.now ≡ suc (length c.in-Some.more.now) = ap length c.in-Some.ensures in
     let left : length c.skip-rest.result.now ≡ length c.loop-b.rest.now - c.line_end_size-size.result =

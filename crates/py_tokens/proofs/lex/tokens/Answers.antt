@@ -3,7 +3,7 @@ use Rattle.py_tokens.specs.declared.token.Token.{Token}
 use Rattle.py_tokens.specs.Layout.{lexed, tokens_of_text}
 use Rattle.py_tokens.specs.Tokens.{Tokenizes}
 use Rattle.py_tokens.specs.Characters.{text_characters}
-use Rattle.py_tokens.proofs.CharacterLemmas.{length-text_characters}
+use Rattle.py_tokens.proofs.CharacterLemmas.{length_text_characters}
 use Rattle.py_tokens.proofs.Streams.{stream_of}
 use Rattle.py_tokens.proofs.Whole.{cut_whole}
 use Rattle.py_tokens.proofs.lex.tokens.Goals as goal
@@ -12,7 +12,7 @@ pub lexed-requires : goal.lexed-requires
 lexed-requires c =
     let same : length c.as_slice.result.now ≡ length (text_characters c.args.text.now) =
     ap length (c.as_slice.ensures ∙ c.in_ok-chars.ensures) in
-    omega (arith, same, length-text_characters c.args.text.now)
+    omega (arith, same, length_text_characters c.args.text.now)
 
 exact : (c : goal.After-drop-chars-inside) → Tokenizes {X = Vec Token Global} (λ v. v.items) c.lexed.result
     (tokens_of_text c.args.text.now)

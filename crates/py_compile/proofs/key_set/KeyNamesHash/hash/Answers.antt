@@ -3,7 +3,7 @@ use Rattle.std.specs.Prelude.{fold}
 use Rattle.std.specs.List.{flat_map}
 use Rattle.std.specs.Hash.{fed_then, slice, u8, usize}
 use Rattle.py_compile.specs.Expressions.{key_names}
-use Rattle.py_compile.proofs.KeyNumbers.{length-key_names}
+use Rattle.py_compile.proofs.KeyNumbers.{length_key_names}
 use Rattle.py_compile.proofs.key_set.KeyNamesHash.hash.Goals as goal
 
 pub returns : goal.returns
@@ -13,5 +13,5 @@ returns g c =
     fed_then write c.args.state.now c.write_usize.new.self c.hash_names.new.state (usize (length named))
     (flat_map (slice u8) (key_names named)) c.write_usize.ensures c.hash_names.ensures
     ∙ ap (λ n. fold write c.args.state.now (usize n ++ flat_map (slice u8) (key_names named)))
-    (sym (length-key_names named))
+    (sym (length_key_names named))
     ∙ ap (λ ks. fold write c.args.state.now (slice (slice u8) ks)) c.self.view_is
