@@ -22,7 +22,8 @@ ghost use Rattle.front_laws.specs.Spells.{Spells};
 ghost use Rattle.front_laws.specs.Targets.{IsTarget};
 ghost use Rattle.front_laws.specs.Trees.{IsTree};
 
-use py_parser::{canonical_law, grammar_law};
+use canonical_laws::canonical_law;
+use py_parser::grammar_law;
 
 /// The tokens of a text, but for those of its layout, are its longest pieces from the front on, up to its end. A text
 /// without tokens has a bad dedent, or its pieces end at a place for a cause of that refusal. Where no front of what

@@ -1,23 +1,18 @@
 mod PlanBounds
-mod Typed
-mod Ops
-mod Values
+pub mod Typed
 mod Blocks
-mod Surrounds
-mod Constructs
 mod Emits
 mod RowsEqual
 mod Deletions
-mod Program
 mod Examples
-mod Coded
+pub mod Coded
 mod Rests
 mod WorkedRows
 mod Arms
-mod Used
+pub mod Used
 mod Tallying
 mod UsedStatements
-mod Compiled
+pub mod Compiled
 mod Compiling
 mod Steps
 mod RowSteps
@@ -25,47 +20,12 @@ mod TargetSteps
 mod TaskWeights
 mod Plans
 mod PlanWeights
-mod Stateds
+pub mod Stateds
 mod StmtArms
 mod Leaves
 mod Gathers
-mod Sane
-mod Legal
-mod ExprInduct
-mod StmtInduct
-mod SaneRows
-mod Homes
+pub mod ExprInduct
+pub mod Homes
 mod KeyNumbers
-mod Lengths
-mod SmallNumbers
-mod SingleTargets
-mod ExprTyped
-mod EachFrom
-mod World
-mod StmtSimple
-mod FoldInduct
-mod UsesInTurn
-mod StmtTyped
-mod BodyTyped
-mod Numbers
-mod CodesRight
-mod RootsMade
-mod Sits
-mod Fit
-mod Clean
-mod SimpleClean
-mod StmtClean
-mod BodyClean
-mod BelongRows
-mod Assembled
-mod LegalRows
-mod Clear
-mod OrdinaryEvents
-mod Begun
+pub mod Lengths
 mod OnceNames
-mod ParamNames
-mod ParamSlots
-mod NoneFree
-mod LegalExprs
-mod LegalStmts
-mod ProgramRight

@@ -2,7 +2,6 @@
 ghost use Rattle.std.specs.Prelude.{◌≡◌, [], IfOk, OnOk};
 ghost use Rattle.std.specs.List.{IsDistinct, list_any};
 ghost use Rattle.std.specs.Str.{bytes_eq};
-ghost use Rattle.py_code.specs.Right.{IsRightProgram};
 ghost use Rattle.py_compile.specs.Compiles.{Compiles, bound_in};
 ghost use Rattle.py_compile.specs.inner.Bodies.{NamedOnce, Padded};
 ghost use Rattle.py_compile.specs.inner.Gathered.{numbered};
@@ -95,20 +94,18 @@ fn has_long(texts: &NameSet) -> bool
     false
 }
 
-/// The program of a text's tree and its scopes, by the table of templates (`docs/LANGUAGE.md`, "Code of a tree"), ready
-/// for the machine: what is tested of a program before it runs holds of each program that this answers.
+/// The program of a text's tree and its scopes, by the table of templates (`docs/LANGUAGE.md`, "Code of a tree").
 ///
 /// The condition says that the tree is one of some tokens by the grammar, and that the scopes are those that `resolve`
-/// answers for it. Of another tree the program need not be right: a target that is a number, say, has no code that
-/// stores it.
+/// answers for it. So the program is ready for the machine: what is tested of a program before it runs holds of it, by
+/// `right_law` of `compiler_laws`.
 ///
 /// Refused is `TooLarge`: with the line of its `def` or `class` (1 for the module) a body with more than 65,535
 /// instructions, and with line 1 more than 65,535 bodies or roots, or a string of more than 1,048,576 bytes; of several
 /// lines the least. `OutOfMemory` says that there was no memory for the program.
 pub fn compile(alloc: Global, m: &Module, scopes: &Scopes) -> Result<Program, CompileError>
     requires resolved { IsResolved m.now scopes.now }
-    ensures done { Compiles m.now scopes.now result }
-    ensures right { IfOk result IsRightProgram }
+    ensures { Compiles m.now scopes.now result }
 {
     let bodies = all_bodies(alloc, m.body.as_slice())?;
     if bodies.len() > MOST {

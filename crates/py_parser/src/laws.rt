@@ -1,10 +1,9 @@
 //! The laws of the grammar, as contracts: a call of such a function does nothing, and gives its caller's proof the
 //! facts of its clauses.
-ghost use Rattle.std.specs.Prelude.{◌≡◌, ℕ, ◌<◌, ◌≤◌, List, [], length, Ok, Err, All};
+ghost use Rattle.std.specs.Prelude.{◌≡◌, ℕ, ◌<◌, ◌≤◌, List, [], length, Ok, Err};
 ghost use Rattle.py_tokens.specs.Layout.{tokens_of_text};
 ghost use Rattle.py_tokens.specs.Stream.{IsStream};
 ghost use Rattle.py_tokens.specs.declared.token.Token.{Token};
-ghost use Rattle.py_tree.specs.Canonical.{module_text};
 ghost use Rattle.py_tree.specs.declared.stmt.Module.{Module};
 ghost use Rattle.py_tree.specs.Tall.{tall_module};
 ghost use Rattle.py_parser.specs.declared.fault.Fault.{Fault};
@@ -36,11 +35,4 @@ pub fn grammar_law()
 pub fn ends_law()
     ensures text { (text : List ℕ) (ts : List Token) → tokens_of_text text ≡ Ok ts → EndsOnce ts }
     ensures stream { (size at depth : ℕ) (ts : List Token) → IsStream size at depth ts → EndsOnce ts }
-{}
-
-/// The canonical text of a module that is the tree of some text has tokens, and these have this module again.
-pub fn canonical_law()
-    ensures { (text : List ℕ) (ts : List Token) (m : Module)
-        → All (λ b. b < 256) text → tokens_of_text text ≡ Ok ts → IsModule m ts
-        → (us : List Token) × (tokens_of_text (module_text m) ≡ Ok us) × IsModule m us }
 {}

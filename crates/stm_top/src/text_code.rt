@@ -8,6 +8,7 @@ ghost use Rattle.py_code.specs.declared.program.Program.{Program as Code};
 ghost use Rattle.front_laws.specs.Trees.{IsTree};
 ghost use Rattle.stm_top.specs.TextCode.{HasCode, HasScopes, IsFault, IsRefused};
 
+use compiler_laws::right_law;
 use front_laws::{round_law, tree_law};
 use py_code::Program;
 use py_compile::{CompileError, compile};
@@ -85,6 +86,7 @@ fn program_of(
     ensures right { IfOk result (λ program. IsRightProgram program) }
     ensures fault { IfErr result (λ fault. IsFault text.now fault) }
 {
+    right_law();
     match compile(alloc, tree, scopes) {
         Ok(program) => Ok(program),
         Err(CompileError::Refused(refusal)) => Err(TextFault::Refused(refusal)),

@@ -7,21 +7,20 @@ use Rattle.py_compile.specs.Compiles.{Compiles, bound_in}
 use Rattle.py_compile.specs.Whole.{bodies, is_long, roots_with}
 use Rattle.py_compile.proofs.Compiling.{codes_said, compiles_err, compiles_ok, large_is, long_text, many_bodies, many_roots, not_past, padded_is, past, told_is}
 use Rattle.py_compile.proofs.OnceNames.{scopes_once}
-use Rattle.py_compile.proofs.ProgramRight.{compiles_right}
 use Rattle.py_compile.proofs.compiler.compile.Goals as goal
 
 pub bound-requires : goal.bound-requires
 bound-requires c = scopes_once (outline c.args.m.now) c.args.scopes.now c.requires.resolved.resolves.1
 
-pub returns-then-len-gt-MOST-clause-done : goal.returns-then-len-gt-MOST-clause-done
-returns-then-len-gt-MOST-clause-done c =
+pub returns-then-len-gt-MOST : goal.returns-then-len-gt-MOST
+returns-then-len-gt-MOST c =
     subst (λ e. Compiles c.args.m.now c.args.scopes.now (Err e)) (sym c.too_large.ensures)
     (ap (option_map TooLarge) (many_bodies c.args.scopes.now c.args.m.now c.in_ok-bodies.bodies
     (c.in_ok-bodies.ensures ∙ ap bodies c.as_slice.ensures)
     (past 65535 c.len.result (length c.in_ok-bodies.bodies) c.if-len-gt-MOST.true c.len.ensures)))
 
-pub returns-then-len-gt-MOST-2-clause-done : goal.returns-then-len-gt-MOST-2-clause-done
-returns-then-len-gt-MOST-2-clause-done c =
+pub returns-then-len-gt-MOST-2 : goal.returns-then-len-gt-MOST-2
+returns-then-len-gt-MOST-2 c =
     subst (λ e. Compiles c.args.m.now c.args.scopes.now (Err e)) (sym c.too_large-then-len-gt-MOST-2.ensures)
     (ap (option_map TooLarge) (many_roots c.args.scopes.now c.args.m.now c.in_ok-bodies.bodies
     (c.in_ok-bodies.ensures ∙ ap bodies c.as_slice.ensures) c.in_ok-used.used
@@ -34,8 +33,8 @@ returns-then-len-gt-MOST-2-clause-done c =
     c.if-len-gt-MOST-2.true (c.len-3.ensures ∙
     ap length (c.in_ok-roots.ensures ∙ ap (λ u. roots_with u.texts u.cells) c.used.view_is)))))
 
-pub returns-then-has_long-clause-done : goal.returns-then-has_long-clause-done
-returns-then-has_long-clause-done c =
+pub returns-then-has_long : goal.returns-then-has_long
+returns-then-has_long c =
     subst (λ e. Compiles c.args.m.now c.args.scopes.now (Err e)) (sym c.too_large-then-has_long.ensures)
     (ap (option_map TooLarge) (long_text c.args.scopes.now c.args.m.now c.in_ok-bodies.bodies
     (c.in_ok-bodies.ensures ∙ ap bodies c.as_slice.ensures) c.in_ok-used.used
@@ -49,8 +48,8 @@ returns-then-has_long-clause-done c =
     ap length (c.in_ok-roots.ensures ∙ ap (λ u. roots_with u.texts u.cells) c.used.view_is)))
     (sym (ap (λ u. list_any is_long u.texts) c.used.view_is) ∙ sym c.has_long.ensures ∙ c.if-has_long.true)))
 
-pub returns-clause-done : goal.returns-clause-done
-returns-clause-done c =
+pub returns : goal.returns
+returns c =
     compiles_err c.args.scopes.now c.args.m.now c.in_ok-bodies.bodies
     (c.in_ok-bodies.ensures ∙ ap bodies c.as_slice.ensures) c.in_ok-used.used
     (told_is c.as_slice-2.result.now c.as_slice-3.result.now c.len-2.result c.in_ok-used.used
@@ -75,8 +74,8 @@ returns-clause-done c =
     (codes_said c.in_ok-used.used c.as_slice-5.result.now c.pad.new.sets.items c.as_slice-4.result.now
     c.in_ok-bodies.bodies (Err c.in-Err.e) c.as_slice-5.ensures.value c.as_slice-4.ensures c.in-Err.ensures)
 
-pub returns-in-Ok-clause-done : goal.returns-in-Ok-clause-done
-returns-in-Ok-clause-done c =
+pub returns-in-Ok : goal.returns-in-Ok
+returns-in-Ok c =
     compiles_ok c.args.scopes.now c.args.m.now c.in_ok-bodies.bodies
     (c.in_ok-bodies.ensures ∙ ap bodies c.as_slice.ensures) c.in_ok-used.used
     (told_is c.as_slice-2.result.now c.as_slice-3.result.now c.len-2.result c.in_ok-used.used
@@ -102,8 +101,3 @@ returns-in-Ok-clause-done c =
     (codes_said c.in_ok-used.used c.as_slice-5.result.now c.pad.new.sets.items c.as_slice-4.result.now
     c.in_ok-bodies.bodies (Ok c.in-Ok.codes) c.as_slice-5.ensures.value c.as_slice-4.ensures c.in-Ok.ensures)
     (c.in_ok-roots.ensures ∙ ap (λ u. roots_with u.texts u.cells) c.used.view_is)
-
-pub returns-in-Ok-clause-right : goal.returns-in-Ok-clause-right
-returns-in-Ok-clause-right c =
-    compiles_right c.args.m.now c.args.scopes.now (record { codes = c.in-Ok.codes; roots = c.in_ok-roots.roots })
-    c.requires.resolved (returns-in-Ok-clause-done c)

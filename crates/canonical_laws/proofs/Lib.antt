@@ -1,0 +1,12 @@
+mod LinedWords
+mod LinedSimple
+mod LinedLaid
+mod LinedBlocks
+mod CanonWords
+mod CanonExpr
+mod CanonReads
+mod CanonSimple
+mod CanonSteps
+mod CanonHeads
+mod CanonBlocks
+mod CanonLaw
