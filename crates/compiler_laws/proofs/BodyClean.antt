@@ -22,7 +22,8 @@ use Rattle.compiler_laws.proofs.Legal as lg
 use Rattle.compiler_laws.proofs.Sane.{sane_some}
 use Rattle.py_compile.proofs.ExprInduct.{Every, every_front, every_back}
 use Rattle.compiler_laws.proofs.World.{known, inside, lim, HasNone}
-use Rattle.compiler_laws.proofs.Surrounds.{leaves_does, nothing_does, jump_does}
+use Rattle.compiler_laws.proofs.Surrounds.{leaves_does}
+use Rattle.compiler_laws.proofs.Blocks.{nothing_does, jump_does}
 use Rattle.compiler_laws.proofs.StmtSimple.{do_here, assign_here, augment_here, print_here, return_here, raise_here, del_here, assert_here, import_here, from_here}
 use Rattle.compiler_laws.proofs.UsesInTurn.{three_uses, four_uses}
 use Rattle.compiler_laws.proofs.FoldInduct.{Related, Nil, Cons, related_of, clause_stands, code_by_arm, code_by_clause, code_by_handler, uses_by_arm, uses_by_clause, uses_by_handler, ClauseWith, HandlerWith, LayerWith, IsLayer, every_stmts}

@@ -16,7 +16,8 @@ use Rattle.py_compile.specs.Statements.{Body, Stated, Armed, Claused, Handled, b
 use Rattle.py_compile.proofs.ExprInduct.{every_front, every_back}
 use Rattle.compiler_laws.proofs.Sane.{sane_some}
 use Rattle.compiler_laws.proofs.Legal.{Legal, always, both, all_legal, has_clause, sane_defaults, legal, legal_by_arm, legal_by_clause, legal_by_handler}
-use Rattle.compiler_laws.proofs.Surrounds.{block_does, in_loop, in_clause, leaves_does, nothing_does, jump_does}
+use Rattle.compiler_laws.proofs.Surrounds.{block_does, in_loop, in_clause, leaves_does}
+use Rattle.compiler_laws.proofs.Blocks.{nothing_does, jump_does}
 use Rattle.compiler_laws.proofs.Constructs.{try_except_does, try_finally_does, def_does, class_does}
 use Rattle.compiler_laws.proofs.EachFrom.{from_front, from_back, from_join}
 use Rattle.compiler_laws.proofs.World.{known, inside, lim, Covers, HasNone, Standing, BodiesOk, IsAt, DoesIn}

@@ -9,7 +9,8 @@ use Rattle.py_compile.specs.Table.{E, A, H, M, B, store, def, class, arm, all_ar
 use Rattle.py_compile.proofs.Typed.{Ring, ring_at, Typed, Goes, PartsOk, all_stand, template_typed}
 use Rattle.compiler_laws.proofs.Ops.{sh, op, load_op, store_op, pop_try_op, raise_op, jump_op, jump_false, next_op, try_op}
 use Rattle.compiler_laws.proofs.Values.{Each, Room, own_ring, Value, Store, same, values, many_values}
-use Rattle.compiler_laws.proofs.Surrounds.{AroundFits, low, Does, Clause, IsHome, store_home}
+use Rattle.compiler_laws.proofs.Surrounds.{AroundFits, low, Does, Clause}
+use Rattle.compiler_laws.proofs.Blocks.{IsHome, store_home}
 
 module _ (k : Limits) where
   module _ (ln : ℕ) where

@@ -33,7 +33,8 @@ use Rattle.py_compile.specs.Uses.{Use, Text, Keys, Inside, name_read, name_bound
 use Rattle.compiler_laws.proofs.Sane.{fits_level, sane, sane_trailer, all_sane, sane_some, sane_links, sane_named, sane_pairs, sane_trailers}
 use Rattle.compiler_laws.proofs.Ops.{keep_false, keep_true}
 use Rattle.compiler_laws.proofs.Values.{Each, Value, Store, Change, one_is, one_value_is, two_values_is, link_is, operators_is, IsKeep, Kept, kept_is, all_kept_is, Between, between_is, chained_is, conditional_is, trail_is, attribute_is, index_is, slice_is, built_is, call_is, method_call_is, to_attr_is, to_item_is, to_all_is, one_takes, Pair as IsPair, pair_is, dictionary_is}
-use Rattle.compiler_laws.proofs.Surrounds.{Does, block_does, one_does, del_attr_does, del_item_does, add_name_does, add_attr_does, add_item_does}
+use Rattle.compiler_laws.proofs.Surrounds.{Does, block_does}
+use Rattle.compiler_laws.proofs.Blocks.{one_does, del_attr_does, del_item_does, add_name_does, add_attr_does, add_item_does}
 use Rattle.py_compile.proofs.Coded as rows
 use Rattle.py_compile.specs.inner.Tallies.{read_links, read_pairs, read_named, read_trailers}
 use Rattle.py_compile.proofs.Used as uses

@@ -1,6 +1,7 @@
 mod Ops
 mod Values
 mod Surrounds
+mod Blocks
 mod Constructs
 mod Program
 mod Sane

@@ -26,7 +26,8 @@ use Rattle.compiler_laws.proofs.Legal.{is_target_of, are_targets, raises, sane_d
 use Rattle.compiler_laws.proofs.Ops.{sh}
 use Rattle.py_compile.proofs.Typed.{template_typed}
 use Rattle.compiler_laws.proofs.Values.{Each, Value, Store, Change, one_is, also_is}
-use Rattle.compiler_laws.proofs.Surrounds.{Does, low, leaves_does, block_does, in_loop, in_clause, nothing_does, return_does, raise_again_does, assign_does, IsHome, expression_does, print_one_does, print_line_does, import_does, raise_one_does, raise_two_does, assert_with_does, assert_alone_does}
+use Rattle.compiler_laws.proofs.Surrounds.{Does, low, leaves_does, block_does, in_loop, in_clause}
+use Rattle.compiler_laws.proofs.Blocks.{nothing_does, return_does, raise_again_does, assign_does, IsHome, expression_does, print_one_does, print_line_does, import_does, raise_one_does, raise_two_does, assert_with_does, assert_alone_does}
 use Rattle.py_compile.proofs.ExprInduct.{Every, every_front, every_back, every_join}
 use Rattle.py_compile.proofs.Homes.{Covered, IsHomed, home_bound}
 use Rattle.compiler_laws.proofs.SmallNumbers.{operator_small}

@@ -1,6 +1,5 @@
 mod PlanBounds
 pub mod Typed
-mod Blocks
 mod Emits
 mod RowsEqual
 mod Deletions

@@ -13,9 +13,9 @@ use Rattle.py_compile.specs.Template.{Piece, Part, Op, Hidden, To, Here, Alone, 
 use Rattle.py_compile.specs.Table.{E, A, load, store, nothing, one, assign, del_attr, del_item, add_name, add_attr, add_item, expression, print_one, print_line, import_one, raise_one, raise_two, assert_with, assert_alone, Around, InWhile, InFor, InTry, InClause, InFinally, way_out, return, raise_again}
 use Rattle.std.specs.Prelude.{All}
 use Rattle.py_compile.proofs.Typed.{Ring, Typed, Goes, PartsOk, all_stand, template_typed}
-use Rattle.py_compile.proofs.Ops.{sh, op, load_op, store_op, pop_op, pop_try_op, raise_op, return_op, jump_op, jump_false}
-use Rattle.py_compile.proofs.Values.{Each, Room, own_ring, Value, Store, Change, changes, same}
-use Rattle.py_compile.proofs.Surrounds.{AroundFits, low, Does, Leaves, block_does, in_loop, in_clause, SlotFits, slot_fits}
+use Rattle.compiler_laws.proofs.Ops.{sh, op, load_op, store_op, pop_op, pop_try_op, raise_op, return_op, jump_op, jump_false}
+use Rattle.compiler_laws.proofs.Values.{Each, Room, own_ring, Value, Store, Change, changes, same}
+use Rattle.compiler_laws.proofs.Surrounds.{AroundFits, low, Does, Leaves, block_does, in_loop, in_clause, SlotFits, slot_fits}
 
 no_keys : (k : Limits) → All (IsText k) []
 no_keys k n d lt = absurd (omega (arith, lt))
