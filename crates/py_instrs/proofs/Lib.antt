@@ -1,8 +1,3 @@
 mod PairLoops
-pub mod Places
-mod Wide
-mod PastEnds
-mod Afters
-mod Loops
 mod RootsLoop
 mod Numbering

@@ -2,10 +2,10 @@
 ghost use Rattle.py_data.specs.Sense.{Meets, Safe, IsLive};
 ghost use Rattle.py_frames.specs.AttrInstrs.{del_attr_instr, dropped_attr, found_method, load_attr_row, load_method_row, loaded_attr, loaded_method, missing_method, store_attr_row, stored_attr};
 
-use crate::raising::{done, give, place_in, push_two};
 use obj_class::{Found, attr, del_attr, find_attr, missing, set_attr};
 use py_data::{Addr, Stop, Value, View, look};
 use py_frames::Next;
+use py_parts::{done, give, place_in, push_two};
 use std::alloc::Global;
 
 /// Pushes an attribute of a value, by the address of its name.

@@ -11,9 +11,6 @@ ghost use Rattle.obj_dict.specs.Dict.{key_row};
 ghost use Rattle.py_frames.specs.BuildRows as rows;
 ghost use Rattle.py_frames.specs.Raising as raising;
 
-use crate::raising::{
-    give, memory_fault, place_in, push, push_two, raise_operand, raise_row, told,
-};
 use obj_class::make_record;
 use obj_seq::{gather, make_iter, next as next_item};
 use py_data::exception::{MEMORY_ERROR, TYPE_ERROR, VALUE_ERROR};
@@ -22,6 +19,7 @@ use py_data::{
     kind,
 };
 use py_frames::{Next, Pushed};
+use py_parts::{give, memory_fault, place_in, push, push_two, raise_operand, raise_row, told};
 use std::alloc::Global;
 
 /// Makes a tuple or a list of these values, and pushes it.

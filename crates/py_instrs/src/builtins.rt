@@ -5,11 +5,11 @@ ghost use Rattle.py_base.specs.Numbers.{number_in};
 ghost use Rattle.py_code.specs.declared.instr.Constant.TheVariants.{Root};
 ghost use Rattle.py_frames.specs.GlobalRows as globals;
 
-use crate::programs::first_cell;
 use py_base::exception::THREAD_ERROR;
 use py_base::{NoMemory, builtin_number, class_number};
 use py_code::{Constant, Program};
 use py_data::builtin::THREAD_MODULE;
+use py_parts::first_cell;
 use std::alloc::AllocError;
 
 /// Two names are the same.

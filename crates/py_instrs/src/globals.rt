@@ -7,13 +7,12 @@ ghost use Rattle.py_frames.specs.Raising.{raise_row};
 
 use crate::builtins::builtin_named;
 use crate::locals::const_row;
-use crate::programs::cell_number;
-use crate::raising::{done, pass, place_in, push, raise_row, told_name};
 use obj_class::held;
 use py_code::{Constant, Program};
 use py_data::exception::NAME_ERROR;
 use py_data::{Addr, Fault, Got, NoMemory, Stop, Value, View, look};
 use py_frames::Next;
+use py_parts::{cell_number, done, pass, place_in, push, raise_row, told_name};
 use std::alloc::Global;
 
 /// The exception of a name that nothing is bound to.

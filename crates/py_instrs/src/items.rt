@@ -8,7 +8,6 @@ ghost use Rattle.py_data.specs.Sense.{Meets, Safe, IsLive};
 ghost use Rattle.obj_seq.specs.Seq as seq;
 ghost use Rattle.py_frames.specs.ItemRows as rows;
 
-use crate::raising::{done, give};
 use obj_nest::number_of;
 use obj_seq::{del_item as del_place, item, set_item as set_place, slice};
 use obj_str::{bytes_of, make_str};
@@ -16,6 +15,7 @@ use py_base::{first, skip};
 use py_data::exception::{INDEX_ERROR, KEY_ERROR, TYPE_ERROR, raise};
 use py_data::{Addr, Fault, Got, Kind, Stop, Value, View, With, kind};
 use py_frames::Next;
+use py_parts::{done, give};
 use std::alloc::Global;
 
 /// The place of an index among `n` items, if it has one. A negative index counts from the end.

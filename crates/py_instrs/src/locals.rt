@@ -5,11 +5,11 @@ ghost use Rattle.py_code.specs.declared.instr.Constant.TheVariants.{Root};
 ghost use Rattle.py_frames.specs.LocalRows.{const_row, del_local_row, load_local_row, unbound_fault};
 ghost use Rattle.py_frames.specs.Raising.{raise_row};
 
-use crate::raising::{push, raise_row, told_name};
 use py_code::Constant;
 use py_data::exception::UNBOUND_LOCAL_ERROR;
 use py_data::{Addr, Fault, NoMemory, Stop, Value, View, look};
 use py_frames::Next;
+use py_parts::{push, raise_row, told_name};
 use std::alloc::Global;
 
 /// Pushes the root of a number.

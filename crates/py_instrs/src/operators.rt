@@ -4,10 +4,10 @@ ghost use Rattle.py_base.specs.Numbers.{binary_signs, compare_signs, unary_signs
 ghost use Rattle.py_data.specs.Sense.{Meets, Safe, IsLive};
 ghost use Rattle.py_frames.specs.OperatorRows as rows;
 
-use crate::raising::{give, push};
 use obj_ops::{binary, compare, in_place, truth, unary};
 use py_data::{Addr, Stop, Value, View};
 use py_frames::{Next, Pushed};
+use py_parts::{give, push};
 use std::alloc::Global;
 
 /// UNARY: an operator of one operand, by its number.

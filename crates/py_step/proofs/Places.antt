@@ -5,7 +5,7 @@ use Rattle.py_code.specs.declared.program.Code.{Code}
 use Rattle.py_code.specs.declared.program.Program.{Program}
 use Rattle.py_frames.specs.declared.state.Frame.{Frame}
 use Rattle.py_frames.specs.State.{no_code, instr_at}
-use Rattle.py_instrs.proofs.Places.{none_at}
+use Rattle.py_parts.proofs.Places.{none_at}
 
 -- a code that isn't there has no instructions
 pub no_instr : (p : Program) (f : Frame) (n : ℕ) → n ≡ f.code → None ≡ slice_get p.codes n →

@@ -26,7 +26,7 @@ use calls::value_waits;
 use py_base::{first, skip};
 use py_code::{Instr, Program};
 use py_data::{Addr, Peek, Value, value_or_unset};
-use py_instrs::keys_at;
+use py_parts::keys_at;
 use py_states::ThreadState;
 
 /// So many arguments of CALL_METHOD, behind its object, if there is one.

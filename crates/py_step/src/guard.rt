@@ -10,7 +10,7 @@ use py_base::{first, skip};
 use py_code::Instr;
 use py_data::{Stop, Value, View};
 use py_frames::Next;
-use py_instrs::{Site, raise_operand};
+use py_parts::{Site, raise_operand};
 use py_states::ThreadState;
 use std::alloc::Global;
 

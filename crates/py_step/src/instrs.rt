@@ -19,18 +19,20 @@ ghost use Rattle.py_step.specs.inner.Operators.{HasOperator};
 
 use crate::place::place_of;
 use py_base::{first, skip};
+use py_calls::{
+    class_body_row, exc_match_row, made_alone, made_valued, make_function_row, print_item_row,
+    print_newline_row, raise_value, value_call,
+};
 use py_code::Instr;
 use py_data::{Kind, NoMemory, Stop, Value, Values, View, value_or_unset};
 use py_frames::{Next, Pushed};
 use py_instrs::{
-    Given, Site, binary_instr, build_dict_row, class_body_row, code_name, compare_instr, const_row,
-    del_attr_instr, del_global_row, del_item_instr, exc_match_row, in_place_instr, iter_instr,
-    jump_false_row, keep_false_row, keep_true_row, keys_at, load_attr_row, load_item_row,
-    load_method_row, made_alone, made_valued, make_function_row, next_instr, not_row, pass,
-    print_item_row, print_newline_row, push_two, raise_value, root_name, setup_row, slice_instr,
-    slot_name, store_attr_row, store_global_row, store_item_row, store_name_row, unary_instr,
-    unpack_row, value_call,
+    binary_instr, build_dict_row, compare_instr, const_row, del_attr_instr, del_global_row,
+    del_item_instr, in_place_instr, iter_instr, jump_false_row, keep_false_row, keep_true_row,
+    load_attr_row, load_item_row, load_method_row, next_instr, not_row, setup_row, slice_instr,
+    store_attr_row, store_global_row, store_item_row, store_name_row, unary_instr, unpack_row,
 };
+use py_parts::{Given, Site, code_name, keys_at, pass, push_two, root_name, slot_name};
 use py_states::ThreadState;
 use std::alloc::Global;
 
@@ -280,7 +282,7 @@ fn leave<S, V: View<S>>(
 {
     let name = code_name(s.program, t.code());
     let below = s.depth.saturating_sub(1);
-    py_instrs::return_by(
+    py_calls::return_by(
         alloc,
         v,
         s.roots,

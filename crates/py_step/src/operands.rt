@@ -4,7 +4,7 @@ ghost use Rattle.py_frames.specs.State as state;
 ghost use Rattle.py_states.specs.Innermost.{innermost};
 
 use py_code::{Instr, Program};
-use py_instrs::keys_at;
+use py_parts::keys_at;
 use py_states::ThreadState;
 
 /// How many operands an instruction takes, in the innermost frame of a thread.

@@ -8,7 +8,7 @@ ghost use Rattle.py_states.specs.Innermost.{innermost};
 use crate::prepared::Prepared;
 use py_code::{Code, Instr, Program};
 use py_data::Addr;
-use py_instrs::Site;
+use py_parts::Site;
 use py_states::ThreadState;
 
 /// The address, or else 0.

@@ -3,7 +3,7 @@ ghost use Rattle.std.specs.Prelude.{◌≡◌};
 
 use py_code::Program;
 use py_data::Addr;
-use py_instrs::{InitNumber, Site, init_number};
+use py_parts::{InitNumber, Site, init_number};
 use py_verify::Verified;
 use std::marker::Model;
 
@@ -19,7 +19,7 @@ impl Model for Prepared {
     ghost use Rattle.std.specs.Prelude.{◌≡◌, codes, IfSome};
     ghost use Rattle.py_code.specs.declared.program.Program.{Program};
     ghost use Rattle.py_frames.specs.GlobalRows as globals;
-    ghost use Rattle.py_instrs.specs.inner.Init.{known};
+    ghost use Rattle.py_parts.specs.inner.Init.{known};
 
     ghost Value = { Program };
 

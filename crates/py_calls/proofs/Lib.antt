@@ -1,0 +1,4 @@
+mod Wide
+mod PastEnds
+mod Afters
+mod Loops

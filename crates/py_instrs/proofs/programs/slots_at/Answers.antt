@@ -1,5 +1,0 @@
-use Rattle.py_instrs.proofs.Places.{slots_none}
-use Rattle.py_instrs.proofs.programs.slots_at.Goals as goal
-
-pub returns-in-None : goal.returns-in-None
-returns-in-None c = slots_none c.args.p.now c.args.n c.in-None.ensures.value
