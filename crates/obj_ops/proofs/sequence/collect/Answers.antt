@@ -3,7 +3,8 @@ use Rattle.std.proofs.lemmas.List.{take_more}
 use Rattle.py_data.specs.declared.value.Value.TheVariants.{Unset}
 use Rattle.py_data.specs.Heap.{at}
 use Rattle.py_data.specs.Sense.{Meets, Run}
-use Rattle.obj_ops.proofs.Lists.{take_all, looked_again, starved_again, value_before}
+use Rattle.py_data.proofs.AfterLook.{looked_again, starved_again, value_before}
+use Rattle.obj_ops.proofs.Lists.{take_all}
 use Rattle.obj_ops.proofs.sequence.collect.Goals as goal
 
 pub returns-in_err-push-clause-met : goal.returns-in_err-push-clause-met
