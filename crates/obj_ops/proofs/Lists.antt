@@ -1,4 +1,4 @@
--- Lists, and the loop that collects the values of a record.
+-- Lists that are repeated, or taken whole.
 use Rattle.std.proofs.Common.{◌≡◌, ℕ, zero, suc, ◌+◌, ◌≤◌, List, [], ◌∷◌, ◌++◌, length, take, sym, ap, refl, ◌∙◌, arith, add-one, append_assoc, append-nil}
 use Rattle.std.specs.List.{repeat}
 
