@@ -50,6 +50,7 @@ mod InnerMoves
 mod SoloMoves
 mod Installing
 mod Replaying
+mod Ended
 mod Putting
 mod InstallCalls
 mod Came

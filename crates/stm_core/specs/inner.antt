@@ -1,4 +1,5 @@
 -- What code and proofs say to each other: nothing public rests on it.
+pub mod Ending
 pub mod Going
 pub mod Halts
 pub mod Hold

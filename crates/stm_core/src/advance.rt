@@ -16,7 +16,7 @@ impl<'p, C: Client, S: SegStore, I: Source, O: Sink, E: Sink> Core<'p, C, S, I, 
     ghost use Rattle.stm_core.specs.Outside.{Outer};
     ghost use Rattle.stm_core.specs.Devices.{DeviceState, StopRose, device_state};
     ghost use Rattle.stm_core.specs.Books.{Fit, Worlds, transaction};
-    ghost use Rattle.stm_core.specs.inner.Whole.{Whole, SameShape};
+    ghost use Rattle.stm_core.specs.inner.Ending.{HasEnded, MayEnd};
     ghost use Rattle.stm_core.specs.inner.Going.{MayGoOn, GoneOn};
     ghost use Rattle.stm_core.specs.InUse.{IfTold, RisesWithin};
     ghost use Rattle.stm_core.specs.Begun.{CountsSteps};
@@ -37,22 +37,10 @@ impl<'p, C: Client, S: SegStore, I: Source, O: Sink, E: Sink> Core<'p, C, S, I, 
         done: u64,
         halt: Halt,
     ) -> Result<Advance, AdvanceError>
-        requires fit { Fit k (S.meaning self.old.store) self.old.books work.progress }
-        requires idle { slice_get self.old.books.hands.items k ≡ Some Hand.Idle }
-        requires thread { work.thread < length self.old.books.threads.entries }
-        requires count { CountsSteps self.old.spent self.old.books.history.entries }
+        requires out { MayEnd S.meaning k work self.old }
         requires why { (w : Worlds) × PauseWhy (C.prog self.old.client.now) w k (Pause.Stopped halt)
             (S.meaning self.old.store) (S.reserved self.old.store) self.old.books work }
-        ensures rest { self.new ≡ record self.old {
-          store = self.new.store;
-          books = self.new.books;
-          spent = self.new.spent;
-        } }
-        ensures shape { SameShape (S.meaning self.old.store) (S.meaning self.new.store) }
-        ensures reserved { S.reserved self.new.store ≡ S.reserved self.old.store }
-        ensures peaks { S.peaks self.new.store ≡ S.peaks self.old.store }
-        ensures whole { Whole (S.meaning self.new.store) self.new.books }
-        ensures count { CountsSteps self.new.spent self.new.books.history.entries }
+        ensures ended { HasEnded S.meaning S.reserved S.peaks self.old self.new }
         ensures counted { (most : ℕ) → done < most → CountsDone most done result }
         ensures tried { tried_after result ≡ 1 }
         ensures rose { (d d1 : DeviceState) → PauseRose (Pause.Stopped halt) d d1
@@ -104,22 +92,10 @@ impl<'p, C: Client, S: SegStore, I: Source, O: Sink, E: Sink> Core<'p, C, S, I, 
         done: u64,
         pause: Pause,
     ) -> Result<Advance, AdvanceError>
-        requires fit { Fit k (S.meaning self.old.store) self.old.books work.progress }
-        requires idle { slice_get self.old.books.hands.items k ≡ Some Hand.Idle }
-        requires thread { work.thread < length self.old.books.threads.entries }
-        requires count { CountsSteps self.old.spent self.old.books.history.entries }
+        requires out { MayEnd S.meaning k work self.old }
         requires why { (w : Worlds) × PauseWhy (C.prog self.old.client.now) w k pause (S.meaning self.old.store)
             (S.reserved self.old.store) self.old.books work }
-        ensures rest { self.new ≡ record self.old {
-          store = self.new.store;
-          books = self.new.books;
-          spent = self.new.spent;
-        } }
-        ensures shape { SameShape (S.meaning self.old.store) (S.meaning self.new.store) }
-        ensures reserved { S.reserved self.new.store ≡ S.reserved self.old.store }
-        ensures peaks { S.peaks self.new.store ≡ S.peaks self.old.store }
-        ensures whole { Whole (S.meaning self.new.store) self.new.books }
-        ensures count { CountsSteps self.new.spent self.new.books.history.entries }
+        ensures ended { HasEnded S.meaning S.reserved S.peaks self.old self.new }
         ensures counted { (most : ℕ) → PauseCount most done pause → CountsDone most done result }
         ensures tried { tried_after result ≡ tried_by pause }
         ensures rose { (d d1 : DeviceState) → PauseRose pause d d1

@@ -71,19 +71,12 @@ impl<T: Drop> Books<T> {
     {
         let Work {
             thread,
-            begun: _,
             steps,
-            solo: _,
             state,
             progress,
+            ..
         } = work;
-        let Progress {
-            names,
-            kept_names: _,
-            started,
-            kept_started: _,
-            recent: _,
-        } = progress;
+        let Progress { names, started, .. } = progress;
         self.pending -= started.len();
         self.threads.set(thread, state);
         self.threads.append(started);
@@ -108,6 +101,7 @@ impl<'p, C: Client, S: SegStore, I: Source, O: Sink, E: Sink> Core<'p, C, S, I, 
     ghost use Rattle.stm_core.specs.Passes.{doom_one, doom_readers};
     ghost use Rattle.stm_core.specs.Outside.{InCore};
     ghost use Rattle.stm_core.specs.Books.{Fit, Worlds, worlds_after, transaction, core_of};
+    ghost use Rattle.stm_core.specs.inner.Ending.{HasEnded, MayEnd};
     ghost use Rattle.stm_core.specs.inner.Whole.{Whole, SameShape};
     ghost use Rattle.stm_core.specs.inner.Trying.{core_with};
     ghost use Rattle.stm_core.specs.Events.{may_make};
@@ -269,22 +263,10 @@ impl<'p, C: Client, S: SegStore, I: Source, O: Sink, E: Sink> Core<'p, C, S, I, 
 
     /// Ends the transaction of segment k, which was taken out of its hand.
     fn commit_out(&mut self, k: u8, work: Work<C::State>) -> Result<Commit, Conflict>
-        requires fit { Fit k (S.meaning self.old.store) self.old.books work.progress }
-        requires idle { slice_get self.old.books.hands.items k ≡ Some Hand.Idle }
-        requires thread { work.thread < length self.old.books.threads.entries }
+        requires out { MayEnd S.meaning k work self.old }
         requires numbers { (j : ℕ) (y : Work C.State) → slice_get self.old.books.hands.items j ≡ Some (Hand.Runs y)
             → y.begun ≢ work.begun }
-        requires count { CountsSteps self.old.spent self.old.books.history.entries }
-        ensures whole { Whole (S.meaning self.new.store) self.new.books }
-        ensures count { CountsSteps self.new.spent self.new.books.history.entries }
-        ensures rest { self.new ≡ record self.old {
-          store = self.new.store;
-          books = self.new.books;
-          spent = self.new.spent;
-        } }
-        ensures shape { SameShape (S.meaning self.old.store) (S.meaning self.new.store) }
-        ensures reserved { S.reserved self.new.store ≡ S.reserved self.old.store }
-        ensures peaks { S.peaks self.new.store ≡ S.peaks self.old.store }
+        ensures ended { HasEnded S.meaning S.reserved S.peaks self.old self.new }
         ensures broken { self.new.books.broken ≡ self.old.books.broken }
         ensures cause { self.new.books.cause ≡ self.old.books.cause }
         ensures ends { (w : Worlds) → (w1 : Worlds)

@@ -257,33 +257,21 @@ impl<'p, C: Client, S: SegStore, I: Source, O: Sink, E: Sink> Core<'p, C, S, I, 
         let state = self.outcome();
         let failed = self.has_failed();
         let Core {
-            alloc: _,
-            client: _,
             store,
             books,
-            spent: _,
-            length: _,
-            budget: _,
             devices,
-            made_with: _,
+            ..
         } = self;
         let Books {
-            threads: _,
-            pending: _,
-            hands: _,
             history,
             conflicts,
-            begun: _,
-            last: _,
-            cause: _,
-            broken: _,
+            ..
         } = books;
         let Devices {
             input,
             out,
             err,
-            mid: _,
-            was_mid: _,
+            ..
         } = devices;
         Finished {
             state,

@@ -49,6 +49,7 @@ impl<'p, C: Client, S: SegStore, I: Source, O: Sink, E: Sink> Core<'p, C, S, I, 
     ghost use Rattle.stm_core.specs.Books.{Fit, Worlds, with_own, transaction, core_of};
     ghost use Rattle.stm_core.specs.Devices.{device_state, ShowsWorld, Shown, IsLeftAlone, CountsGrow, StopRose};
     ghost use Rattle.stm_core.specs.inner.Whole.{Whole, SameShape, StepDone, StepCut, StepBroke};
+    ghost use Rattle.stm_core.specs.inner.Ending.{HasEnded, MayEnd, StepsLeave};
     ghost use Rattle.stm_core.specs.Advanced.{with_cause};
     ghost use Rattle.stm_core.specs.Moves.{first_cause};
     ghost use Rattle.stm_core.specs.Solo.{up_to_whole};
@@ -76,11 +77,7 @@ impl<'p, C: Client, S: SegStore, I: Source, O: Sink, E: Sink> Core<'p, C, S, I, 
         requires lives { (C.prog self.old.client.now).life work.old.state ≡ Lives }
         ensures fit { Fit k (S.meaning self.new.store) self.new.books work.new.progress }
         ensures store { IsStore (S.reserved self.new.store) (S.meaning self.new.store) }
-        ensures rest { self.new ≡ record self.old {
-          store = self.new.store;
-          books = self.new.books;
-          devices = self.new.devices;
-        } }
+        ensures rest { StepsLeave self.old self.new }
         ensures reserved { S.reserved self.old.store ≤ S.reserved self.new.store }
         ensures peaks { (t e : Option (List ℕ)) (w : Worlds)
             → Shown work.old.solo t e (device_state I.state O.state E.state self.old.devices) w.own
@@ -149,11 +146,7 @@ impl<'p, C: Client, S: SegStore, I: Source, O: Sink, E: Sink> Core<'p, C, S, I, 
         ensures fit { Fit k (S.meaning self.new.store) self.new.books work.new.progress }
         ensures store { IsStore (S.reserved self.new.store) (S.meaning self.new.store) }
         ensures idle { slice_get self.new.books.hands.items k ≡ Some Hand.Idle }
-        ensures rest { self.new ≡ record self.old {
-          store = self.new.store;
-          books = self.new.books;
-          devices = self.new.devices;
-        } }
+        ensures rest { StepsLeave self.old self.new }
         ensures sane { SaneAfter (C.prog self.old.client.now) (C.sound self.old.client.now) length k
             (pause_of result halt.new) (device_state I.state O.state E.state self.new.devices)
             (S.meaning self.new.store) self.new.books work.new }
@@ -217,11 +210,7 @@ impl<'p, C: Client, S: SegStore, I: Source, O: Sink, E: Sink> Core<'p, C, S, I, 
         ensures fit { Fit k (S.meaning self.new.store) self.new.books work.new.progress }
         ensures store { IsStore (S.reserved self.new.store) (S.meaning self.new.store) }
         ensures idle { slice_get self.new.books.hands.items k ≡ Some Hand.Idle }
-        ensures rest { self.new ≡ record self.old {
-          store = self.new.store;
-          books = self.new.books;
-          devices = self.new.devices;
-        } }
+        ensures rest { StepsLeave self.old self.new }
         ensures sane { SaneAfter (C.prog self.old.client.now) (C.sound self.old.client.now) length k result.1
             (device_state I.state O.state E.state self.new.devices) (S.meaning self.new.store) self.new.books
             work.new }
@@ -295,20 +284,8 @@ impl<'p, C: Client, S: SegStore, I: Source, O: Sink, E: Sink> Core<'p, C, S, I, 
     /// The solo transaction of segment k, which was taken out of its hand, is committed up to its last whole step,
     /// and dropped where it has done none.
     fn commit_whole(&mut self, k: u8, work: Work<C::State>)
-        requires fit { Fit k (S.meaning self.old.store) self.old.books work.progress }
-        requires idle { slice_get self.old.books.hands.items k ≡ Some Hand.Idle }
-        requires thread { work.thread < length self.old.books.threads.entries }
-        requires count { CountsSteps self.old.spent self.old.books.history.entries }
-        ensures rest { self.new ≡ record self.old {
-          store = self.new.store;
-          books = self.new.books;
-          spent = self.new.spent;
-        } }
-        ensures whole { Whole (S.meaning self.new.store) self.new.books }
-        ensures count { CountsSteps self.new.spent self.new.books.history.entries }
-        ensures shape { SameShape (S.meaning self.old.store) (S.meaning self.new.store) }
-        ensures reserved { S.reserved self.new.store ≡ S.reserved self.old.store }
-        ensures peaks { S.peaks self.new.store ≡ S.peaks self.old.store }
+        requires out { MayEnd S.meaning k work self.old }
+        ensures ended { HasEnded S.meaning S.reserved S.peaks self.old self.new }
         ensures core { (w : Worlds) → (w1 : Worlds)
             × (core_of w1 (S.meaning self.new.store) self.new.books ≡ up_to_whole k
             (S.meaning self.old.store).segments (transaction w.own ((S.meaning self.old.store).part k) work)
@@ -325,20 +302,8 @@ impl<'p, C: Client, S: SegStore, I: Source, O: Sink, E: Sink> Core<'p, C, S, I, 
     /// The next step of the solo transaction of segment k, which was taken out of its hand, was cut for good, for
     /// this cause, which is kept.
     fn break_off(&mut self, k: u8, work: Work<C::State>, cause: Cause)
-        requires fit { Fit k (S.meaning self.old.store) self.old.books work.progress }
-        requires idle { slice_get self.old.books.hands.items k ≡ Some Hand.Idle }
-        requires thread { work.thread < length self.old.books.threads.entries }
-        requires count { CountsSteps self.old.spent self.old.books.history.entries }
-        ensures rest { self.new ≡ record self.old {
-          store = self.new.store;
-          books = self.new.books;
-          spent = self.new.spent;
-        } }
-        ensures whole { Whole (S.meaning self.new.store) self.new.books }
-        ensures count { CountsSteps self.new.spent self.new.books.history.entries }
-        ensures shape { SameShape (S.meaning self.old.store) (S.meaning self.new.store) }
-        ensures reserved { S.reserved self.new.store ≡ S.reserved self.old.store }
-        ensures peaks { S.peaks self.new.store ≡ S.peaks self.old.store }
+        requires out { MayEnd S.meaning k work self.old }
+        ensures ended { HasEnded S.meaning S.reserved S.peaks self.old self.new }
         ensures broken { self.new.books.broken ≡ Some
             (record { thread = work.thread; turns = length self.new.books.history.entries }) }
         ensures cause { self.new.books.cause ≡ first_cause self.old.books.cause cause }
@@ -375,21 +340,9 @@ impl<'p, C: Client, S: SegStore, I: Source, O: Sink, E: Sink> Core<'p, C, S, I, 
     /// A step of the transaction of segment k, which was taken out of its hand, was cut for this cause, which is
     /// kept: a solo one is committed up to its last whole step, and another one is dropped.
     pub fn fail_out(&mut self, k: u8, work: Work<C::State>, cause: Cause) -> AdvanceError
-        requires fit { Fit k (S.meaning self.old.store) self.old.books work.progress }
-        requires idle { slice_get self.old.books.hands.items k ≡ Some Hand.Idle }
-        requires thread { work.thread < length self.old.books.threads.entries }
-        requires count { CountsSteps self.old.spent self.old.books.history.entries }
+        requires out { MayEnd S.meaning k work self.old }
         ensures same { result ≡ AdvanceError.Failed cause }
-        ensures rest { self.new ≡ record self.old {
-          store = self.new.store;
-          books = self.new.books;
-          spent = self.new.spent;
-        } }
-        ensures whole { Whole (S.meaning self.new.store) self.new.books }
-        ensures count { CountsSteps self.new.spent self.new.books.history.entries }
-        ensures shape { SameShape (S.meaning self.old.store) (S.meaning self.new.store) }
-        ensures reserved { S.reserved self.new.store ≡ S.reserved self.old.store }
-        ensures peaks { S.peaks self.new.store ≡ S.peaks self.old.store }
+        ensures ended { HasEnded S.meaning S.reserved S.peaks self.old self.new }
         ensures cause { self.new.books.cause ≡ first_cause self.old.books.cause cause }
         ensures mortal { work.solo ≡ false → (self.new.books.broken ≡ self.old.books.broken)
             × ((w : Worlds) → core_of w (S.meaning self.new.store) self.new.books ≡ with_cause cause

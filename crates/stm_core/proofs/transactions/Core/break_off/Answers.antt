@@ -1,18 +1,23 @@
 use Rattle.std.proofs.Common.{ap, ◌∙◌}
+use Rattle.stm_core.specs.declared.books.Books.{Books}
 use Rattle.stm_core.specs.Moves.{first_cause}
 use Rattle.stm_core.specs.Books.{transaction}
 use Rattle.stm_core.specs.inner.Trying.{core_with}
 use Rattle.stm_core.specs.Advanced.{with_cause}
 use Rattle.stm_core.proofs.Settling.{caused, core_caused}
 use Rattle.stm_core.proofs.Breaking.{whole_cause, cut_whole}
+use Rattle.stm_core.proofs.Ended.{ended_kept}
 use Rattle.stm_core.proofs.Calling.{blank}
 use Rattle.stm_core.proofs.transactions.Core.break_off.Goals as goal
 
-pub returns-clause-whole : goal.returns-clause-whole
-returns-clause-whole g c =
+pub returns-clause-ended : goal.returns-clause-ended
+returns-clause-ended g c =
     let y = c.commit_whole.new.self in
     let m1 = g.S.SegStore.meaning y.store in
-    caused m1 _ c.keep.new.self (cut_whole m1 y.books _ c.commit_whole.ensures.whole) c.keep.ensures.rest
+    let h = c.commit_whole.ensures.ended in
+    ended_kept g.S.SegStore.meaning g.S.SegStore.reserved g.S.SegStore.peaks c.args.self.now y c.keep.new.self h
+    (caused m1 _ c.keep.new.self (cut_whole m1 y.books _ h.whole) c.keep.ensures.rest)
+    (ap (λ (z : Books g.row.C-State.Denot). z.history.entries) c.keep.ensures.rest)
 
 pub returns-clause-cause : goal.returns-clause-cause
 returns-clause-cause g c =

@@ -8,7 +8,7 @@ use Rattle.stm_core.specs.Committed.{Committed}
 use Rattle.stm_core.specs.CoreHeld.{core_limits}
 use Rattle.stm_core.specs.Outside.{InCore}
 use Rattle.stm_core.proofs.Fits.{get_set_same}
-use Rattle.stm_core.proofs.Wholes.{taken}
+use Rattle.stm_core.proofs.Wholes.{Set, taken}
 use Rattle.stm_core.proofs.Publishing.{emptied, thread_there, number_alone, committed_taken, committed_doomed, committed_stands}
 use Rattle.stm_core.proofs.Calling.{ending_now, Quiet, quiet_good, quiet_job, quiet_leads, full_same, rose_same, le_same}
 use Rattle.stm_core.proofs.StandsAgain.{good_now}
@@ -26,23 +26,22 @@ pub unreachable-requires : goal.unreachable-requires
 unreachable-requires g c = ((ending_now c.requires.good.sane (core_limits g.S.SegStore.meaning c.args.self.now)
     c.args.k refl c.requires.may).busy c.in-Idle.ensures.hand)
 
-pub commit_out-result-requires-clause-fit : goal.commit_out-result-requires-clause-fit
-commit_out-result-requires-clause-fit g c =
-    taken c.args.k (g.S.SegStore.meaning c.args.self.now.store) c.args.self.now.books c.take.new.self c.in-Runs.work
-    c.requires.good.whole c.in-Runs.ensures.hand
-    (record { rest = c.take.ensures.rest; hands = c.take.ensures.hands })
-
-pub commit_out-result-requires-clause-idle : goal.commit_out-result-requires-clause-idle
-commit_out-result-requires-clause-idle g c =
-    ap (λ l. slice_get l c.args.k) c.take.ensures.hands ∙ get_set_same c.args.self.now.books.hands.items c.args.k Idle
-    (slice_get_within c.args.self.now.books.hands.items c.args.k (Runs c.in-Runs.work) c.in-Runs.ensures.hand)
-
-pub commit_out-result-requires-clause-thread : goal.commit_out-result-requires-clause-thread
-commit_out-result-requires-clause-thread g c =
-    thread_there c.args.k (g.S.SegStore.meaning c.args.self.now.store) c.args.self.now.books c.take.new.self
-    c.in-Runs.work c.in-Runs.ensures.hand (record { rest = c.take.ensures.rest; hands = c.take.ensures.hands })
-    (g.C.Client.prog c.args.self.now.client.now) _ c.args.self.now.length c.requires.good.sane.stands.worlds
-    (good_now c.requires.good.sane)
+pub commit_out-result-requires-clause-out : goal.commit_out-result-requires-clause-out
+commit_out-result-requires-clause-out g c =
+    let x = c.args.self.now in
+    let m = g.S.SegStore.meaning x.store in
+    let set : Set c.args.k Idle x.books c.take.new.self =
+    record { rest = c.take.ensures.rest; hands = c.take.ensures.hands } in
+    let h = c.requires.good in
+    record {
+      fit = taken c.args.k m x.books c.take.new.self c.in-Runs.work h.whole c.in-Runs.ensures.hand set;
+      idle = ap (λ l. slice_get l c.args.k) c.take.ensures.hands ∙ get_set_same x.books.hands.items c.args.k Idle
+          (slice_get_within x.books.hands.items c.args.k (Runs c.in-Runs.work) c.in-Runs.ensures.hand);
+      thread = thread_there c.args.k m x.books c.take.new.self c.in-Runs.work c.in-Runs.ensures.hand set
+          (g.C.Client.prog x.client.now) _ x.length h.sane.stands.worlds (good_now h.sane);
+      count = subst (λ (z : Books g.row.C-State.Denot). CountsSteps x.spent z.history.entries)
+          (sym c.take.ensures.rest) h.count;
+    }
 
 pub commit_out-result-requires-clause-numbers : goal.commit_out-result-requires-clause-numbers
 commit_out-result-requires-clause-numbers g c =
@@ -73,12 +72,12 @@ returns-in-Runs g c =
     ap (λ (z : Books g.row.C-State.Denot). z.broken) c.take.ensures.rest in
     let q : Quiet g.I.Source.state g.O.Sink.state g.E.Sink.state g.C.Client.prog g.C.Client.sound g.S.SegStore.reserved
     g.S.SegStore.meaning x y (InCore (Committed p c.args.k m.segments c.commit_out-result.result)) = record {
-      rest = e.rest;
-      shape = e.shape;
+      rest = e.ended.rest;
+      shape = e.ended.shape;
       store = c.known.ensures.store;
-      whole = e.whole;
-      count = e.count;
-      kept = full_same _ _ _ _ x.books.cause y.books.cause (le_same _ _ e.reserved) e.shape.1 cause
+      whole = e.ended.whole;
+      count = e.ended.count;
+      kept = full_same _ _ _ _ x.books.cause y.books.cause (le_same _ _ e.ended.reserved) e.ended.shape.1 cause
           c.requires.good.kept;
       rose = rose_same x.books.cause y.books.cause _ _ cause c.requires.good.sane.rose;
       led = committed_stands p x.length c.args.k _ _ m (g.S.SegStore.meaning y.store) x.books y.books
@@ -91,7 +90,7 @@ returns-in-Runs g c =
           g.S.SegStore.reserved g.S.SegStore.meaning x y _ q c.requires.good;
       committed = quiet_leads g.I.Source.state g.O.Sink.state g.E.Sink.state g.C.Client.prog g.C.Client.sound
           g.S.SegStore.reserved g.S.SegStore.meaning x y _ q c.requires.good;
-      peaks = e.peaks;
+      peaks = e.ended.peaks;
     }
 
 pub returns-in-Doomed : goal.returns-in-Doomed

@@ -26,15 +26,23 @@ put_back-requires-clause-fit g c =
     (fit_open k m m0 b c.args.work.progress p c.requires.fit c.open_step.ensures.meaning c.open.ensures)) in
     subst (λ (z : Work g.row.C-State.Denot). Fit k m1 b z.progress) (sym c.count_steps.ensures) fit
 
-pub fail_out-requires-clause-fit : goal.fail_out-requires-clause-fit
-fail_out-requires-clause-fit g c =
+pub fail_out-requires : goal.fail_out-requires
+fail_out-requires g c =
     let k = c.args.k in
     let m = g.S.SegStore.meaning c.args.self.now.store in
     let only = subst (λ (z : Meaning). OnlyChanges k z (g.S.SegStore.meaning c.replay.new.store))
     c.open_step.ensures.meaning c.in-Err.ensures.err in
-    fit_open k m (g.S.SegStore.meaning c.undo_step.new.self) c.args.self.now.books c.args.work.progress c.open.new.self
-    c.requires.fit (c.undo_step.ensures.meaning ∙ taken_back k m (g.S.SegStore.meaning c.replay.new.store) only)
-    c.open.ensures
+    record {
+      out = record {
+        fit = fit_open k m (g.S.SegStore.meaning c.undo_step.new.self) c.args.self.now.books c.args.work.progress
+            c.open.new.self c.requires.fit
+            (c.undo_step.ensures.meaning ∙ taken_back k m (g.S.SegStore.meaning c.replay.new.store) only)
+            c.open.ensures;
+        idle = c.requires.idle;
+        thread = c.requires.thread;
+        count = c.requires.count;
+      };
+    }
 
 pub returns-in-Ok-clause-count : goal.returns-in-Ok-clause-count
 returns-in-Ok-clause-count g c =

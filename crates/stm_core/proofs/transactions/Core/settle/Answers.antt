@@ -1,10 +1,10 @@
-use Rattle.std.proofs.Common.{sym, ap, subst, ◌∙◌, inl}
-use Rattle.stm_core.specs.Begun.{CountsSteps}
+use Rattle.std.proofs.Common.{ap, subst, inl}
 use Rattle.stm_core.specs.Devices.{device_state}
 use Rattle.stm_core.specs.inner.Pauses.{PauseCount}
 use Rattle.stm_core.specs.inner.Pausing.{PauseRose}
 use Rattle.stm_core.proofs.Endings.{ran_ends, waits_ends, ended_ends}
 use Rattle.stm_core.proofs.Calling.{blank}
+use Rattle.stm_core.proofs.Ended.{ended_put}
 use Rattle.stm_core.proofs.transactions.Core.settle.Goals as goal
 
 pub returns-in-Whole-clause-settled : goal.returns-in-Whole-clause-settled
@@ -40,29 +40,47 @@ returns-in-Ended-clause-settled g c = λ t e w o out.
     (g.S.SegStore.meaning y.store) (g.S.SegStore.reserved y.store) y.books c.args.done c.args.pause c.in-Ended.is
     out (c.put_back-in-Ended.ensures.core w) c.put_back-in-Ended.ensures.broken
 
-pub returns-in-Whole-clause-count : goal.returns-in-Whole-clause-count
-returns-in-Whole-clause-count g c =
-    ap (λ s. s.spent) c.put_back.ensures.rest ∙
-    subst (λ l. CountsSteps c.args.self.now.spent l) (sym (ap (λ k. k.history) (c.put_back.ensures.core blank)))
-    c.requires.count
+pub put_back-requires-clause-fit : goal.put_back-requires-clause-fit
+put_back-requires-clause-fit g c = c.requires.out.fit
+
+pub put_back-requires-clause-idle : goal.put_back-requires-clause-idle
+put_back-requires-clause-idle g c = c.requires.out.idle
+
+pub returns-in-Whole-clause-ended : goal.returns-in-Whole-clause-ended
+returns-in-Whole-clause-ended g c =
+    let p = c.put_back.ensures in
+    ended_put g.S.SegStore.meaning g.S.SegStore.reserved g.S.SegStore.peaks c.args.self.now c.put_back.new.self p.rest
+    p.whole (ap (λ k. k.history) (p.core blank)) c.requires.out.count
 
 pub returns-in-Whole-clause-rose : goal.returns-in-Whole-clause-rose
 returns-in-Whole-clause-rose g c = λ d d1 h. inl (ap (λ k. k.cause) (c.put_back.ensures.core blank))
 
-pub returns-in-Waits-clause-count : goal.returns-in-Waits-clause-count
-returns-in-Waits-clause-count g c =
-    ap (λ s. s.spent) c.put_back-in-Waits.ensures.rest ∙
-    subst (λ l. CountsSteps c.args.self.now.spent l)
-    (sym (ap (λ k. k.history) (c.put_back-in-Waits.ensures.core blank))) c.requires.count
+pub put_back-requires-in-Waits-clause-fit : goal.put_back-requires-in-Waits-clause-fit
+put_back-requires-in-Waits-clause-fit g c = c.requires.out.fit
+
+pub put_back-requires-in-Waits-clause-idle : goal.put_back-requires-in-Waits-clause-idle
+put_back-requires-in-Waits-clause-idle g c = c.requires.out.idle
+
+pub returns-in-Waits-clause-ended : goal.returns-in-Waits-clause-ended
+returns-in-Waits-clause-ended g c =
+    let p = c.put_back-in-Waits.ensures in
+    ended_put g.S.SegStore.meaning g.S.SegStore.reserved g.S.SegStore.peaks c.args.self.now
+    c.put_back-in-Waits.new.self p.rest p.whole (ap (λ k. k.history) (p.core blank)) c.requires.out.count
 
 pub returns-in-Waits-clause-rose : goal.returns-in-Waits-clause-rose
 returns-in-Waits-clause-rose g c = λ d d1 h. inl (ap (λ k. k.cause) (c.put_back-in-Waits.ensures.core blank))
 
-pub returns-in-Ended-clause-count : goal.returns-in-Ended-clause-count
-returns-in-Ended-clause-count g c =
-    ap (λ s. s.spent) c.put_back-in-Ended.ensures.rest ∙
-    subst (λ l. CountsSteps c.args.self.now.spent l)
-    (sym (ap (λ k. k.history) (c.put_back-in-Ended.ensures.core blank))) c.requires.count
+pub put_back-requires-in-Ended-clause-fit : goal.put_back-requires-in-Ended-clause-fit
+put_back-requires-in-Ended-clause-fit g c = c.requires.out.fit
+
+pub put_back-requires-in-Ended-clause-idle : goal.put_back-requires-in-Ended-clause-idle
+put_back-requires-in-Ended-clause-idle g c = c.requires.out.idle
+
+pub returns-in-Ended-clause-ended : goal.returns-in-Ended-clause-ended
+returns-in-Ended-clause-ended g c =
+    let p = c.put_back-in-Ended.ensures in
+    ended_put g.S.SegStore.meaning g.S.SegStore.reserved g.S.SegStore.peaks c.args.self.now
+    c.put_back-in-Ended.new.self p.rest p.whole (ap (λ k. k.history) (p.core blank)) c.requires.out.count
 
 pub returns-in-Ended-clause-rose : goal.returns-in-Ended-clause-rose
 returns-in-Ended-clause-rose g c = λ d d1 h. inl (ap (λ k. k.cause) (c.put_back-in-Ended.ensures.core blank))

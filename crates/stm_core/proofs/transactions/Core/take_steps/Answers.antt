@@ -23,25 +23,26 @@ run_out-done-requires-clause-idle g c = c.requires.out.idle
 pub run_out-done-requires-clause-sane : goal.run_out-done-requires-clause-sane
 run_out-done-requires-clause-sane g c = c.requires.out.sane
 
-pub settle-requires-clause-thread : goal.settle-requires-clause-thread
-settle-requires-clause-thread g c =
+pub settle-requires-clause-out : goal.settle-requires-clause-out
+settle-requires-clause-out g c =
     let x = c.args.self.now in
     let p = g.C.Client.prog x.client.now in
-    let s = g.C.Client.sound x.client.now in
+    let sound = g.C.Client.sound x.client.now in
+    let s = c.requires.out.sane in
+    let r = c.run_out-done.ensures in
     let y = c.run_out-done.new.self in
     let m1 = g.S.SegStore.meaning y.store in
-    thread_out p s c.args.length c.args.k m1 y.books c.run_out-done.new.work
-    (sane_paused p s c.args.length c.args.k c.run_out-done.result.1 _ m1 y.books c.run_out-done.new.work
-    c.run_out-done.ensures.sane)
-
-pub settle-requires-clause-count : goal.settle-requires-clause-count
-settle-requires-clause-count g c =
-    let x = c.args.self.now in
-    let s = c.requires.out.sane in
-    let q = c.run_out-done.ensures.paused s.out s.err s.sane.worlds
+    let q = r.paused s.out s.err s.sane.worlds
     (core_with s.sane.worlds c.args.k (g.S.SegStore.meaning x.store) x.books c.args.work) s.shown refl in
-    let e = history_paused _ _ _ _ _ _ _ q.gone in
-    ap (λ z. z.spent) c.run_out-done.ensures.rest ∙ subst (λ l. CountsSteps x.spent l) (sym e) c.requires.out.count
+    record {
+      fit = r.fit;
+      idle = r.idle;
+      thread = thread_out p sound c.args.length c.args.k m1 y.books c.run_out-done.new.work
+          (sane_paused p sound c.args.length c.args.k c.run_out-done.result.1 _ m1 y.books c.run_out-done.new.work
+          r.sane);
+      count = ap (λ z. z.spent) r.rest ∙
+          subst (λ l. CountsSteps x.spent l) (sym (history_paused _ _ _ _ _ _ _ q.gone)) c.requires.out.count;
+    }
 
 pub settle-requires-clause-why : goal.settle-requires-clause-why
 settle-requires-clause-why g c =
@@ -95,23 +96,23 @@ returns-clause-gone g c =
       rose = subst (λ o. KeepsOrRose o z.books.cause d d1) same (e.rose d d1 r.devices.rose);
     } in
     record {
-      rest = e.rest ∙ (λ i. record (r.rest i) { store = z.store; books = z.books; spent = z.spent }) ∙
+      rest = e.ended.rest ∙ (λ i. record (r.rest i) { store = z.store; books = z.books; spent = z.spent }) ∙
           (λ i. record x {
             store = z.store;
             books = z.books;
-            devices = (sym e.rest i).devices;
+            devices = (sym e.ended.rest i).devices;
             spent = z.spent;
           });
-      shape = (e.shape.0 ∙ r.shape.0, e.shape.1 ∙ r.shape.1);
-      reserved = (let a = r.reserved in let b = e.reserved in omega (arith, a, b));
+      shape = (e.ended.shape.0 ∙ r.shape.0, e.ended.shape.1 ∙ r.shape.1);
+      reserved = (let a = r.reserved in let b = e.ended.reserved in omega (arith, a, b));
       peaks = λ t e1 w shown. subst (λ v. IfTold (g.S.SegStore.peaks x.store) v
           (RisesOut (g.C.Client.prog x.client.now) c.args.length c.args.k m
-          (core_with w c.args.k m x.books c.args.work))) (sym e.peaks) (r.peaks t e1 w shown);
-      whole = e.whole;
-      count = e.count;
+          (core_with w c.args.k m x.books c.args.work))) (sym e.ended.peaks) (r.peaks t e1 w shown);
+      whole = e.ended.whole;
+      count = e.ended.count;
       rises = subst (Rises x.books.cause z.books.cause d)
-          (sym (λ i. device_state g.I.Source.state g.O.Sink.state g.E.Sink.state (e.rest i).devices)) rises;
+          (sym (λ i. device_state g.I.Source.state g.O.Sink.state g.E.Sink.state (e.ended.rest i).devices)) rises;
       fault = subst (FaultRose c.settle.result d)
-          (sym (λ i. device_state g.I.Source.state g.O.Sink.state g.E.Sink.state (e.rest i).devices))
+          (sym (λ i. device_state g.I.Source.state g.O.Sink.state g.E.Sink.state (e.ended.rest i).devices))
           (e.fault d d1 r.devices.rose);
     }
