@@ -10,9 +10,11 @@ use Rattle.seg_store.specs.Calls.{after_change}
 use Rattle.seg_store.specs.Store.{CanChange, IsStore}
 use Rattle.paged_store.specs.Words.{Words, decode, in_record}
 use Rattle.paged_store.specs.inner.Formed.{Lays}
-use Rattle.paged_store.specs.inner.State.{meaning_in, Sound}
+use Rattle.paged_store.specs.State.{meaning_in}
+use Rattle.paged_store.specs.inner.Sound.{Sound}
 use Rattle.paged_store.specs.inner.Moves.{never}
-use Rattle.paged_store.specs.inner.Paged.{Paged, state_of, spare_at, Fine}
+use Rattle.paged_store.specs.Paged.{Paged, state_of, spare_at}
+use Rattle.paged_store.specs.inner.Fine.{Fine}
 use Rattle.paged_store.specs.inner.Writing.{Desk, Wrote, Refused}
 use Rattle.paged_store.specs.inner.Written.{Changed}
 use Rattle.paged_store.proofs.OwnerLemmas.{place_own}

@@ -9,7 +9,8 @@ use Rattle.seg_store.proofs.Sees.{other_number}
 use Rattle.page_table.specs.Pages.{Table, Shelf, limit, put, Lies, IsTable}
 use Rattle.page_table.specs.Reserving.{Reserves, TakesAgain, TakesNew, after_give_back}
 use Rattle.paged_store.specs.declared.extent.Extent.{Extent}
-use Rattle.paged_store.specs.inner.Paged.{in_extent, extents_at, one_if, of_class, spare_in, spare_from, spare_at}
+use Rattle.paged_store.specs.Paged.{in_extent, extents_at, one_if, spare_in, spare_from, spare_at}
+use Rattle.paged_store.specs.inner.Fine.{of_class}
 use Rattle.paged_store.specs.inner.Ending.{ExtentsLie, HaveClasses, HaveRoom, GivenBack}
 use Rattle.paged_store.specs.Words.{size_of}
 use Rattle.paged_store.proofs.RecordWords.{size_of_next}

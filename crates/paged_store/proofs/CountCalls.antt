@@ -8,10 +8,12 @@ use Rattle.seg_store.specs.Meaning.{Meaning, sees, saw}
 use Rattle.seg_store.specs.Sums.{sum_below, asked}
 use Rattle.page_table.specs.Pages.{Table}
 use Rattle.paged_store.specs.Words.{Words, in_head, in_body, in_index}
-use Rattle.paged_store.specs.inner.State.{meaning_in, Sound}
+use Rattle.paged_store.specs.State.{meaning_in}
+use Rattle.paged_store.specs.inner.Sound.{Sound}
 use Rattle.paged_store.specs.inner.Moves.{put}
 use Rattle.paged_store.specs.inner.Counted.{Counts, Gains, IsCounted}
-use Rattle.paged_store.specs.inner.Paged.{Drafted, Paged, state_of, of_class, held_by, taken_then, counted_by, counts_of, Fine}
+use Rattle.paged_store.specs.Paged.{Drafted, Paged, state_of, taken_then}
+use Rattle.paged_store.specs.inner.Fine.{of_class, held_by, counted_by, counts_of, Fine}
 use Rattle.paged_store.specs.inner.Drafts.{step_opened}
 use Rattle.paged_store.proofs.OverLemmas.{put_over, put_still}
 use Rattle.paged_store.proofs.SpanLemmas.{head_at, in_first}

@@ -9,7 +9,8 @@ use Rattle.paged_store.specs.declared.extent.Span.{Span}
 use Rattle.paged_store.specs.declared.extent.Note.{Note}
 use Rattle.paged_store.specs.Words.{Words, in_span, listed}
 use Rattle.paged_store.specs.inner.Moves.{nowhere}
-use Rattle.paged_store.specs.inner.Paged.{FitsTable, in_spans, in_extents, noted, rewound, taken_since}
+use Rattle.paged_store.specs.Paged.{in_spans, in_extents, rewound, taken_since}
+use Rattle.paged_store.specs.inner.Fine.{FitsTable, noted}
 use Rattle.paged_store.specs.inner.Writing.{Desk, SameBut, Wrote, Refused, MayWrite, Readied, OwnSpan, Opened, Spanned, note_of, with_notes, NotedSome}
 use Rattle.paged_store.proofs.SpanLemmas.{in_span_holds, none_in_span, span_bounds}
 use Rattle.paged_store.proofs.DraftLemmas.{or_absorbed, rewound_append, rewound_listed, noted_append, noted_listed, in_spans_last, in_spans_get}

@@ -14,8 +14,9 @@ use Rattle.paged_store.specs.declared.store.PagedStore.{PagedStore}
 use Rattle.dict_index.specs.Laws.{KeepsFixed}
 use Rattle.dict_index.proofs.Kept.{pairs_kept}
 use Rattle.paged_store.specs.Words.{Words, decode, kind_by, index_by, index_size, in_head, in_body, in_index}
-use Rattle.paged_store.specs.inner.State.{meaning_in, Sound}
-use Rattle.paged_store.specs.inner.Paged.{state_of}
+use Rattle.paged_store.specs.State.{meaning_in}
+use Rattle.paged_store.specs.inner.Sound.{Sound}
+use Rattle.paged_store.specs.Paged.{state_of}
 use Rattle.paged_store.specs.inner.Indexed.{pairs_by, IsIndexed}
 use Rattle.paged_store.specs.inner.Keyed.{IsKeyed}
 use Rattle.paged_store.specs.inner.Sight.{heap_seen, words_seen}

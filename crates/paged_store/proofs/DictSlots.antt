@@ -17,9 +17,10 @@ use Rattle.paged_store.specs.Stores.{paged_of, paged_meaning}
 use Rattle.paged_store.specs.Words.{Words, decode, kind_by, index_by, index_size, in_head, in_body}
 use Rattle.paged_store.specs.inner.Formed.{Lays}
 use Rattle.paged_store.specs.inner.Indexing.{Avoids, KeyAvoids, HasSlots}
-use Rattle.paged_store.specs.inner.Paged.{state_of}
+use Rattle.paged_store.specs.Paged.{state_of}
 use Rattle.paged_store.specs.inner.Sight.{words_seen}
-use Rattle.paged_store.specs.inner.State.{meaning_in, Sound}
+use Rattle.paged_store.specs.State.{meaning_in}
+use Rattle.paged_store.specs.inner.Sound.{Sound}
 use Rattle.paged_store.proofs.PartLemmas.{false_from, index_not_head, index_not_body}
 use Rattle.paged_store.proofs.RecordWords.{kind_is}
 use Rattle.paged_store.proofs.SightLemmas.{seen_lays, seen_there}

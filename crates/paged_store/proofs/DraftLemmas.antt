@@ -6,7 +6,8 @@ use Rattle.std.proofs.lemmas.Bool.Decides.{eqb_tells, nat_tests}
 use Rattle.paged_store.specs.declared.extent.Span.{Span}
 use Rattle.paged_store.specs.declared.extent.Note.{Note}
 use Rattle.paged_store.specs.Words.{Words, in_span, listed}
-use Rattle.paged_store.specs.inner.Paged.{in_spans, noted, rewound}
+use Rattle.paged_store.specs.Paged.{in_spans, rewound}
+use Rattle.paged_store.specs.inner.Fine.{noted}
 use Rattle.paged_store.specs.inner.Writing.{note_of}
 use Rattle.paged_store.proofs.SpanLemmas.{none_in_span}
 

@@ -13,7 +13,8 @@ use Rattle.paged_store.specs.declared.draft.Draft.{Draft}
 use Rattle.paged_store.specs.declared.extent.Span.{Span}
 use Rattle.paged_store.specs.declared.extent.Extent.{Extent}
 use Rattle.paged_store.specs.declared.extent.Note.{Note}
-use Rattle.paged_store.specs.inner.Paged.{drafted, in_spans, in_extents, of_class, noted, rewound, held_by, touched_by, taken_since, FitsTable}
+use Rattle.paged_store.specs.Paged.{drafted, in_spans, in_extents, rewound, taken_since}
+use Rattle.paged_store.specs.inner.Fine.{of_class, noted, held_by, touched_by, FitsTable}
 use Rattle.paged_store.specs.inner.Ending.{SpansLie, ExtentsLie, HaveClasses, NotesLie, HaveRoom, pushes, restores, with_words, rewinds, GivenBack, among, Released, Shown, made_since}
 use Rattle.paged_store.proofs.SpanSteps.{either_of, pushes_twice, restores_twice}
 use Rattle.paged_store.proofs.BookSteps.{released_twice}

@@ -4,7 +4,8 @@ use Rattle.std.proofs.lemmas.Bool.{cases_Bool, ltb-true, lt-ltb, cond-true, cond
 use Rattle.py_data.specs.Sight.{mem}
 use Rattle.seg_store.specs.Calls.{ended, after_drop}
 use Rattle.paged_store.specs.Words.{Words}
-use Rattle.paged_store.specs.inner.State.{State, part_in, meaning_in, FitsHand, FitsBefore, Sound}
+use Rattle.paged_store.specs.State.{State, part_in, meaning_in}
+use Rattle.paged_store.specs.inner.Sound.{FitsHand, FitsBefore, Sound}
 use Rattle.paged_store.specs.inner.Moves.{empty_hand, given, freed, took, drops}
 use Rattle.paged_store.proofs.StateLemmas.{put_each, put_two, put_three, put_apart}
 use Rattle.paged_store.proofs.MeaningLemmas.{put_here, put_there, part_by, meaning_set}

@@ -11,9 +11,11 @@ use Rattle.page_table.specs.Pages.{Table}
 use Rattle.paged_store.specs.declared.extent.Extent.{Extent}
 use Rattle.paged_store.specs.declared.extent.Note.{Note}
 use Rattle.paged_store.specs.Words.{Words, decode}
-use Rattle.paged_store.specs.inner.State.{Hand, State, meaning_in, fresh, Sound}
+use Rattle.paged_store.specs.State.{Hand, State, meaning_in}
+use Rattle.paged_store.specs.inner.Sound.{fresh, Sound}
 use Rattle.paged_store.specs.inner.Moves.{put, empty_hand, given, gives, publishes, drops, undoes, freed, took}
-use Rattle.paged_store.specs.inner.Paged.{Drafted, no_draft, Paged, state_of, in_spans, in_extents, spare_at, extents_at, of_class, noted, rewound, held_by, touched_by, taken_since, taken_then, word_before, hand_now, hand_before, sum_to, counts_of, Fits, Fine}
+use Rattle.paged_store.specs.Paged.{Drafted, no_draft, Paged, state_of, in_spans, in_extents, spare_at, extents_at, rewound, taken_since, taken_then, word_before, hand_now, hand_before}
+use Rattle.paged_store.specs.inner.Fine.{of_class, noted, held_by, touched_by, sum_to, counts_of, Fits, Fine}
 use Rattle.paged_store.specs.inner.Drafts.{step_undone}
 use Rattle.paged_store.specs.inner.Ending.{pushes, restores, with_words, rewinds, GivenBack, among, free_of, Shown, made_since}
 use Rattle.paged_store.proofs.OverLemmas.{over_each, put_over, put_self, put_still}

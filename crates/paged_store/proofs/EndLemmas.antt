@@ -10,7 +10,8 @@ use Rattle.paged_store.specs.declared.extent.Span.{Span}
 use Rattle.paged_store.specs.declared.extent.Extent.{Extent}
 use Rattle.paged_store.specs.Words.{Words}
 use Rattle.paged_store.specs.inner.Moves.{put, empty_hand}
-use Rattle.paged_store.specs.inner.Paged.{Drafted, no_draft, Paged, in_extents, extents_at, of_class, rewound, held_by, taken_since, taken_then, hand_now, hand_before, sum_to, FitsTable, Fits}
+use Rattle.paged_store.specs.Paged.{Drafted, no_draft, Paged, in_extents, extents_at, rewound, taken_since, taken_then, hand_now, hand_before}
+use Rattle.paged_store.specs.inner.Fine.{of_class, held_by, sum_to, FitsTable, Fits}
 use Rattle.paged_store.specs.inner.Drafts.{step_undone}
 use Rattle.paged_store.specs.inner.Ending.{HaveRoom, free_of}
 use Rattle.paged_store.proofs.OverLemmas.{put_over}

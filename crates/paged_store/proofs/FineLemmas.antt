@@ -11,11 +11,13 @@ use Rattle.py_data.specs.declared.value.Value.{Value}
 use Rattle.seg_store.specs.Meaning.{Meaning}
 use Rattle.seg_store.specs.Store.{NoneOf, IsStore}
 use Rattle.paged_store.specs.Words.{Words}
-use Rattle.paged_store.specs.inner.State.{State, meaning_in, Sound}
+use Rattle.paged_store.specs.State.{State, meaning_in}
+use Rattle.paged_store.specs.inner.Sound.{Sound}
 use Rattle.paged_store.specs.inner.Counted.{IsCounted}
 use Rattle.paged_store.specs.inner.Keyed.{IsKeyed}
 use Rattle.paged_store.specs.inner.Indexed.{HasIndexes}
-use Rattle.paged_store.specs.inner.Paged.{Paged, state_of, counts_of, Fits, Fine}
+use Rattle.paged_store.specs.Paged.{Paged, state_of}
+use Rattle.paged_store.specs.inner.Fine.{counts_of, Fits, Fine}
 
 front_prop : (xs ys : List ℕ) → IsProp ((more : List ℕ) × (ys ≡ xs ++ more))
 front_prop xs ys = λ u v. Σ_prop_path (λ m. hlevel props) (append_cancel_left xs u.0 v.0 (sym u.1 ∙ v.1))

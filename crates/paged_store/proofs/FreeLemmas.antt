@@ -3,7 +3,8 @@ use Rattle.std.proofs.Common.{◌≡◌, ◌≢◌, ℕ, ◌+◌, ◌<◌, ◌�
 use Rattle.std.proofs.lemmas.Bool.{false_from_ne_true, ltb-true, le-ltb, cond-true, cond-false, cond_both}
 use Rattle.paged_store.specs.Words.{Words}
 use Rattle.paged_store.specs.inner.Formed.{Lays}
-use Rattle.paged_store.specs.inner.State.{Hand, State, FitsHand, FitsBefore, Sound}
+use Rattle.paged_store.specs.State.{Hand, State}
+use Rattle.paged_store.specs.inner.Sound.{FitsHand, FitsBefore, Sound}
 use Rattle.paged_store.specs.inner.Moves.{empty_hand, freed}
 use Rattle.paged_store.proofs.OwnerLemmas.{SameOwner, lays_owner}
 use Rattle.paged_store.proofs.StateLemmas.{none_or_some, hand_holds, taken_holds, holds_some, reserved_place}

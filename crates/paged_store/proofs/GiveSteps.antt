@@ -6,7 +6,8 @@ use Rattle.page_table.specs.Pages.{Table, Shelf, in_span}
 use Rattle.page_table.specs.Reserving.{after_give_back}
 use Rattle.seg_store.proofs.Sees.{same_number}
 use Rattle.paged_store.specs.declared.extent.Extent.{Extent}
-use Rattle.paged_store.specs.inner.Paged.{in_extent, extents_at, one_if, of_class, spare_in, spare_from, spare_at}
+use Rattle.paged_store.specs.Paged.{in_extent, extents_at, one_if, spare_in, spare_from, spare_at}
+use Rattle.paged_store.specs.inner.Fine.{of_class}
 use Rattle.paged_store.specs.inner.Ending.{HaveRoom, GivenBack}
 use Rattle.paged_store.proofs.MeaningLemmas.{put_here, put_there}
 

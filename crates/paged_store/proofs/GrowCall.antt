@@ -14,9 +14,11 @@ use Rattle.page_table.specs.Pages.{Table, limit}
 use Rattle.paged_store.specs.declared.extent.Extent.{Extent}
 use Rattle.paged_store.specs.Words.{Words, in_span, decode, count_by, index_by, index_size, in_head}
 use Rattle.paged_store.specs.inner.Formed.{Formed, Lays}
-use Rattle.paged_store.specs.inner.State.{meaning_in, Sound}
+use Rattle.paged_store.specs.State.{meaning_in}
+use Rattle.paged_store.specs.inner.Sound.{Sound}
 use Rattle.paged_store.specs.inner.Moves.{nowhere, never, Stocks}
-use Rattle.paged_store.specs.inner.Paged.{Paged, state_of, extents_at, of_class, spare_at, Fine}
+use Rattle.paged_store.specs.Paged.{Paged, state_of, extents_at, spare_at}
+use Rattle.paged_store.specs.inner.Fine.{of_class, Fine}
 use Rattle.paged_store.specs.inner.Growing.{grown_with, grown_extents, Grew, Ungrown}
 use Rattle.paged_store.specs.inner.Writing.{Desk, Wrote, MayWrite, CanPut, with_words, next_body_size, next_index_size}
 use Rattle.paged_store.specs.inner.Indexing.{Puts}

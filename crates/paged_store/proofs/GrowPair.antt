@@ -22,8 +22,8 @@ use Rattle.paged_store.specs.declared.sight.Seen.TheVariants.{Segment}
 use Rattle.paged_store.specs.declared.store.PagedStore.{PagedStore}
 use Rattle.paged_store.specs.Words.{Words, decode, count_by, index_by, body_size, index_size, in_head}
 use Rattle.paged_store.specs.inner.Formed.{Lays, FitsValue}
-use Rattle.paged_store.specs.inner.State.{Sound}
-use Rattle.paged_store.specs.inner.Paged.{Paged, state_of, extents_at, spare_at, paged_by}
+use Rattle.paged_store.specs.inner.Sound.{Sound}
+use Rattle.paged_store.specs.Paged.{Paged, state_of, extents_at, spare_at, paged_by}
 use Rattle.paged_store.specs.inner.Sight.{Stands, IsKeySeen}
 use Rattle.paged_store.specs.inner.Growing.{grown_class, grown_index, MayGrow, Grew}
 use Rattle.paged_store.specs.inner.Claiming.{RisesBy, extent_for}

@@ -29,8 +29,9 @@ use Rattle.paged_store.specs.declared.sight.Seen.TheVariants.{Segment}
 use Rattle.paged_store.specs.declared.store.PagedStore.{PagedStore}
 use Rattle.paged_store.specs.Words.{Words, room_in, class_in, index_class_in, first_in, decode, kind_by, count_by, body_size}
 use Rattle.paged_store.specs.inner.Formed.{HasIndex, FitsValue}
-use Rattle.paged_store.specs.inner.State.{meaning_in, Sound}
-use Rattle.paged_store.specs.inner.Paged.{Paged, state_of, one_if, paged_by}
+use Rattle.paged_store.specs.State.{meaning_in}
+use Rattle.paged_store.specs.inner.Sound.{Sound}
+use Rattle.paged_store.specs.Paged.{Paged, state_of, one_if, paged_by}
 use Rattle.paged_store.specs.inner.Written.{next_index}
 use Rattle.paged_store.specs.Stores.{paged_of, paged_meaning, peaks_of, Fills}
 use Rattle.paged_store.specs.inner.Claiming.{times, RisesBy, Denies, extent_for}

@@ -9,7 +9,7 @@ use Rattle.page_table.specs.Pages.{Table}
 use Rattle.py_data.specs.declared.value.Value.{Value}
 use Rattle.paged_store.specs.declared.extent.Extent.{Extent}
 use Rattle.paged_store.specs.Words.{Words, in_span, size_of, in_head, in_body}
-use Rattle.paged_store.specs.inner.Paged.{in_extents, extents_at, one_if, spare_at}
+use Rattle.paged_store.specs.Paged.{in_extents, extents_at, one_if, spare_at}
 use Rattle.paged_store.specs.inner.Ending.{ExtentsLie}
 use Rattle.paged_store.specs.inner.Claiming.{extent_for, newly, Claims, NoneLeft, Denies}
 use Rattle.paged_store.specs.inner.Taking.{Takes}

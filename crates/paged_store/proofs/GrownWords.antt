@@ -6,7 +6,7 @@ use Rattle.py_data.specs.declared.value.Value.{Value}
 use Rattle.py_data.specs.Heap.{has_rooms, with_push, with_pair, doubled}
 use Rattle.paged_store.specs.Words.{Words, in_span, size_of, class_in, index_class_in, decode, kind_by, count_by, body_by, index_by, body_size, index_size, in_head, in_body, in_index}
 use Rattle.paged_store.specs.inner.Formed.{Formed, Lays, FitsValue}
-use Rattle.paged_store.specs.inner.Paged.{extents_at, one_if}
+use Rattle.paged_store.specs.Paged.{extents_at, one_if}
 use Rattle.paged_store.specs.inner.Written.{owned_by, parted, put_word, push_words, pair_words, copied, next_head, Grows, TakesBody, Changed}
 use Rattle.paged_store.specs.inner.Writing.{cleared, put_values, next_body_size, next_index_size, grown_words, pushed_words}
 use Rattle.paged_store.specs.inner.Claiming.{extent_for}

@@ -4,7 +4,7 @@ use Rattle.std.proofs.lemmas.Bool.{cases_Bool, both_ways, cond-true, cond-false,
 use Rattle.std.proofs.lemmas.Bool.Decides.{eqb_tells}
 use Rattle.seg_store.proofs.Sees.{same_number, other_number}
 use Rattle.paged_store.specs.inner.Moves.{put}
-use Rattle.paged_store.specs.inner.Paged.{names}
+use Rattle.paged_store.specs.inner.Fine.{names}
 use Rattle.paged_store.specs.inner.Ending.{free_of}
 use Rattle.paged_store.proofs.StateLemmas.{put_each}
 

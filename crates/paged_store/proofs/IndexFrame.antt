@@ -15,7 +15,7 @@ use Rattle.dict_index.proofs.Right.{right_framed}
 use Rattle.paged_store.specs.Words.{Words, size_of, kind_in, index_class_in, decode, kind_by, index_by, index_size}
 use Rattle.paged_store.specs.inner.Formed.{AgreeOn}
 use Rattle.paged_store.specs.inner.Sight.{records_in}
-use Rattle.paged_store.specs.inner.State.{heap_of}
+use Rattle.paged_store.specs.State.{heap_of}
 use Rattle.paged_store.specs.inner.Indexed.{class_by, index_words, home_by, pairs_by, IsIndexed, AreIndexed}
 use Rattle.paged_store.specs.inner.Keyed.{HasKeys}
 use Rattle.paged_store.proofs.SpanLemmas.{in_span_at}

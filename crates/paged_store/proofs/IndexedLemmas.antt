@@ -10,7 +10,8 @@ use Rattle.dict_index.specs.Laws.{KeepsFixed}
 use Rattle.seg_store.specs.Meaning.{Meaning, sees}
 use Rattle.paged_store.specs.Words.{Words, kind_by}
 use Rattle.paged_store.specs.inner.Formed.{AgreeOn}
-use Rattle.paged_store.specs.inner.State.{Hand, State, heap_of, meaning_in, Sound}
+use Rattle.paged_store.specs.State.{Hand, State, heap_of, meaning_in}
+use Rattle.paged_store.specs.inner.Sound.{Sound}
 use Rattle.paged_store.specs.inner.Moves.{empty_hand, nowhere, new_state, looks, begins, marks, with_held, locks, written, stocked, owned, parted, Rewrites, writes, makes, opens, undoes, given, drops}
 use Rattle.paged_store.specs.inner.Indexed.{IsIndexed, AreIndexed, HasIndexes}
 use Rattle.paged_store.specs.inner.Keyed.{HasKeys}

@@ -6,7 +6,8 @@ use Rattle.dict_index.specs.Laws.{KeepsFixed}
 use Rattle.seg_store.specs.Meaning.{sees, saw}
 use Rattle.paged_store.specs.Words.{Words, kind_in, kind_by}
 use Rattle.paged_store.specs.inner.Formed.{Lays, AgreeOn}
-use Rattle.paged_store.specs.inner.State.{Hand, State, heap_of, meaning_in, FitsHand, Sound}
+use Rattle.paged_store.specs.State.{Hand, State, heap_of, meaning_in}
+use Rattle.paged_store.specs.inner.Sound.{FitsHand, Sound}
 use Rattle.paged_store.specs.inner.Moves.{empty_hand, given_by, gives, publishes}
 use Rattle.paged_store.specs.inner.Indexed.{AreIndexed, HasIndexes}
 use Rattle.paged_store.specs.inner.Keyed.{HasKeys, IsKeyed}

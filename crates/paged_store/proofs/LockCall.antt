@@ -9,10 +9,12 @@ use Rattle.seg_store.specs.Meaning.{Meaning, over, sees, holds}
 use Rattle.seg_store.specs.Calls.{after_lock}
 use Rattle.seg_store.specs.Store.{NoOther, IsStore}
 use Rattle.paged_store.specs.Words.{Words, decode}
-use Rattle.paged_store.specs.inner.State.{State, meaning_in, Sound}
+use Rattle.paged_store.specs.State.{State, meaning_in}
+use Rattle.paged_store.specs.inner.Sound.{Sound}
 use Rattle.paged_store.specs.inner.Counted.{IsCounted}
 use Rattle.paged_store.specs.inner.Moves.{put, with_held, locks}
-use Rattle.paged_store.specs.inner.Paged.{names, Paged, state_of, hand_now, hand_before, of_class, sum_to, counts_of, FitsTable, Fits, Fine}
+use Rattle.paged_store.specs.Paged.{Paged, state_of, hand_now, hand_before}
+use Rattle.paged_store.specs.inner.Fine.{names, of_class, sum_to, counts_of, FitsTable, Fits, Fine}
 use Rattle.paged_store.specs.inner.Drafts.{with_lock}
 use Rattle.paged_store.proofs.OverLemmas.{put_self, put_still}
 use Rattle.paged_store.proofs.StateLemmas.{put_each, put_two}

@@ -8,7 +8,8 @@ use Rattle.seg_store.specs.Calls.{marked, first_locked, locked, after_lock}
 use Rattle.seg_store.proofs.Sees.{same_number, other_number}
 use Rattle.paged_store.specs.Words.{Words, decode, in_record}
 use Rattle.paged_store.specs.inner.Formed.{Formed, Lays}
-use Rattle.paged_store.specs.inner.State.{Hand, State, heap_of, part_in, meaning_in, taken_since, FitsHand, FitsBefore, Sound}
+use Rattle.paged_store.specs.State.{Hand, State, heap_of, part_in, meaning_in}
+use Rattle.paged_store.specs.inner.Sound.{taken_since, FitsHand, FitsBefore, Sound}
 use Rattle.paged_store.specs.inner.Moves.{with_held, locks}
 use Rattle.paged_store.proofs.FrameLemmas.{decode_agrees, formed_agrees, lays_agrees, places_agree}
 use Rattle.paged_store.proofs.MemLemmas.{one_more, locked_more}

@@ -6,9 +6,10 @@ use Rattle.py_data.specs.Heap.{Marks}
 use Rattle.py_data.specs.Sight.{mem, no_marks, with_mark}
 use Rattle.seg_store.specs.Calls.{after_begin, after_mark, after_open}
 use Rattle.page_table.specs.Pages.{Table}
-use Rattle.paged_store.specs.inner.State.{State, meaning_in}
+use Rattle.paged_store.specs.State.{State, meaning_in}
 use Rattle.paged_store.specs.inner.Moves.{put, begins, marks, opens}
-use Rattle.paged_store.specs.inner.Paged.{Drafted, Paged, state_of, hand_now, hand_before, word_before, in_spans, in_extents, extents_at, of_class, sum_to, counts_of, FitsTable, Fits, Fine}
+use Rattle.paged_store.specs.Paged.{Drafted, Paged, state_of, hand_now, hand_before, word_before, in_spans, in_extents, extents_at}
+use Rattle.paged_store.specs.inner.Fine.{of_class, sum_to, counts_of, FitsTable, Fits, Fine}
 use Rattle.paged_store.specs.inner.Drafts.{step_opened}
 use Rattle.paged_store.proofs.OverLemmas.{over_each, put_over, put_self, put_still}
 use Rattle.paged_store.proofs.StateLemmas.{put_each}

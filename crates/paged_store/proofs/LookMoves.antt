@@ -5,7 +5,8 @@ use Rattle.py_data.specs.Sight.{no_marks, with_mark}
 use Rattle.seg_store.specs.Meaning.{with_part}
 use Rattle.seg_store.specs.Calls.{after_begin, after_mark}
 use Rattle.paged_store.specs.Words.{Words}
-use Rattle.paged_store.specs.inner.State.{State, part_in, meaning_in, Sound}
+use Rattle.paged_store.specs.State.{State, part_in, meaning_in}
+use Rattle.paged_store.specs.inner.Sound.{Sound}
 use Rattle.paged_store.specs.inner.Moves.{looks, begins, marks}
 use Rattle.paged_store.proofs.MeaningLemmas.{put_here, put_there, part_by, meaning_set}
 

@@ -7,7 +7,7 @@ use Rattle.py_data.specs.declared.value.Value.{Value}
 use Rattle.py_data.specs.Heap.{has_bytes, value_at, new_rec}
 use Rattle.seg_store.specs.Store.{NoneOf, OneList}
 use Rattle.paged_store.specs.Words.{Words, in_span, size_of, class_in, index_class_in, count_by, body_by, index_by, body_size, index_size, in_head, in_body, in_index}
-use Rattle.paged_store.specs.inner.Paged.{extents_at, one_if}
+use Rattle.paged_store.specs.Paged.{extents_at, one_if}
 use Rattle.paged_store.specs.inner.Claiming.{extent_for}
 use Rattle.paged_store.specs.inner.Making.{made_length, body_class, index_class, made_extents, made_words, FitsRecord, FitsBody}
 use Rattle.paged_store.specs.inner.Writing.{laid, cleared, put_values}

@@ -18,13 +18,15 @@ use Rattle.seg_store.proofs.Sees.{mem_last, other_number}
 use Rattle.page_table.specs.Pages.{Table, limit}
 use Rattle.paged_store.specs.declared.extent.Extent.{Extent}
 use Rattle.paged_store.specs.Words.{Words, in_span, size_of, in_head}
-use Rattle.paged_store.specs.inner.State.{State, meaning_in, Sound}
+use Rattle.paged_store.specs.State.{State, meaning_in}
+use Rattle.paged_store.specs.inner.Sound.{Sound}
 use Rattle.paged_store.specs.inner.Counted.{IsCounted}
 use Rattle.paged_store.specs.inner.Indexed.{HasIndexes}
 use Rattle.paged_store.specs.inner.Indexing.{Puts}
 use Rattle.paged_store.specs.inner.Keyed.{HasKeys}
 use Rattle.paged_store.specs.inner.Moves.{put, nowhere, with_held, written, owned, parted, Rewrites, makes}
-use Rattle.paged_store.specs.inner.Paged.{Drafted, Paged, state_of, extents_at, one_if, of_class, spare_at, hand_now, hand_before, sum_to, taken_then, counts_of, FitsTable, Fits, Fine}
+use Rattle.paged_store.specs.Paged.{Drafted, Paged, state_of, extents_at, one_if, spare_at, hand_now, hand_before, taken_then}
+use Rattle.paged_store.specs.inner.Fine.{of_class, sum_to, counts_of, FitsTable, Fits, Fine}
 use Rattle.paged_store.specs.inner.Taking.{Takes}
 use Rattle.paged_store.specs.inner.Written.{Changed}
 use Rattle.paged_store.specs.inner.Making.{made_length, body_class, index_class, made_extents, made_words, FitsRecord, FitsBody, Places}

@@ -17,9 +17,11 @@ use Rattle.page_table.specs.Pages.{Table}
 use Rattle.paged_store.specs.declared.sight.Seen.TheVariants.{Segment}
 use Rattle.paged_store.specs.Words.{Words, in_span, size_of, decode, index_by, index_size, body_by, body_size, in_head, in_body}
 use Rattle.paged_store.specs.inner.Formed.{AgreeOn, Lays}
-use Rattle.paged_store.specs.inner.State.{meaning_in, Sound}
+use Rattle.paged_store.specs.State.{meaning_in}
+use Rattle.paged_store.specs.inner.Sound.{Sound}
 use Rattle.paged_store.specs.inner.Moves.{never}
-use Rattle.paged_store.specs.inner.Paged.{Paged, state_of, extents_at, Fine}
+use Rattle.paged_store.specs.Paged.{Paged, state_of, extents_at}
+use Rattle.paged_store.specs.inner.Fine.{Fine}
 use Rattle.paged_store.specs.inner.Indexed.{index_words}
 use Rattle.paged_store.specs.inner.Indexing.{Avoids, KeyAvoids, CanIndex, Puts}
 use Rattle.paged_store.specs.inner.Making.{made_length, body_class, index_class, made_extents, made_words, FitsRecord, FitsBody, Places}

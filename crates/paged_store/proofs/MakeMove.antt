@@ -6,7 +6,8 @@ use Rattle.py_data.specs.Sight.{mem}
 use Rattle.seg_store.specs.Calls.{made, after_make}
 use Rattle.seg_store.proofs.Sees.{same_number, other_number}
 use Rattle.paged_store.specs.Words.{Words, decode}
-use Rattle.paged_store.specs.inner.State.{Hand, State, part_in, meaning_in, FitsHand, FitsBefore, Sound}
+use Rattle.paged_store.specs.State.{Hand, State, part_in, meaning_in}
+use Rattle.paged_store.specs.inner.Sound.{FitsHand, FitsBefore, Sound}
 use Rattle.paged_store.specs.inner.Moves.{nowhere, with_held, written, owned, parted, Rewrites, makes}
 use Rattle.paged_store.proofs.MemLemmas.{one_more, made_more}
 use Rattle.paged_store.proofs.StateLemmas.{put_each, put_two, put_apart}

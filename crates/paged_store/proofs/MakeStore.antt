@@ -29,9 +29,11 @@ use Rattle.paged_store.specs.Words.{Words, size_of, index_by, index_size}
 use Rattle.paged_store.specs.inner.Indexed.{index_words, IsIndexed, HasIndexes}
 use Rattle.paged_store.specs.inner.Indexing.{CanIndex, Puts}
 use Rattle.paged_store.specs.inner.Formed.{words_for}
-use Rattle.paged_store.specs.inner.State.{Hand, State, meaning_in, Sound}
+use Rattle.paged_store.specs.State.{Hand, State, meaning_in}
+use Rattle.paged_store.specs.inner.Sound.{Sound}
 use Rattle.paged_store.specs.inner.Moves.{put, nowhere, written}
-use Rattle.paged_store.specs.inner.Paged.{Paged, drafted, state_of, one_if, paged_by, extents_at, Fine}
+use Rattle.paged_store.specs.Paged.{Paged, drafted, state_of, one_if, paged_by, extents_at}
+use Rattle.paged_store.specs.inner.Fine.{Fine}
 use Rattle.paged_store.specs.Stores.{paged_of, paged_meaning, peaks_of, Fills}
 use Rattle.paged_store.specs.inner.Claiming.{times, RisesBy, Denies}
 use Rattle.paged_store.specs.inner.Taking.{Takes}

@@ -10,7 +10,7 @@ use Rattle.page_table.specs.Pages.{Table, Lies}
 use Rattle.paged_store.specs.declared.extent.Extent.{Extent}
 use Rattle.paged_store.specs.Words.{in_span, size_of, head_word}
 use Rattle.paged_store.specs.inner.Written.{made_head}
-use Rattle.paged_store.specs.inner.Paged.{in_extents}
+use Rattle.paged_store.specs.Paged.{in_extents}
 use Rattle.paged_store.specs.inner.Claiming.{extent_for}
 use Rattle.paged_store.specs.inner.Taking.{Takes}
 use Rattle.paged_store.specs.declared.value.Header.{Header}

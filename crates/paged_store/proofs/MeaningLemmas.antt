@@ -6,7 +6,7 @@ use Rattle.py_data.specs.Heap.{Rec, Heap, Marks, put_at}
 use Rattle.seg_store.specs.Meaning.{Part, with_part}
 use Rattle.seg_store.proofs.Sees.{same_number, other_number}
 use Rattle.paged_store.specs.Words.{Words, decode}
-use Rattle.paged_store.specs.inner.State.{Hand, State, heap_of, part_in, meaning_in}
+use Rattle.paged_store.specs.State.{Hand, State, heap_of, part_in, meaning_in}
 use Rattle.paged_store.specs.inner.Moves.{put}
 
 pub put_here : {A : Type 0} (k : ℕ) (x : A) (f : ℕ → A) → put k x f k ≡ x

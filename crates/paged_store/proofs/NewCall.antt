@@ -10,7 +10,8 @@ use Rattle.page_table.specs.Pages.{Table, new_table}
 use Rattle.page_table.specs.Lists.{Lists, table_of}
 use Rattle.paged_store.specs.declared.draft.Draft.{Draft}
 use Rattle.paged_store.specs.inner.Moves.{never, new_state}
-use Rattle.paged_store.specs.inner.Paged.{no_draft, drafted, drafted_in, Paged, state_of, paged_by, counts_of, sum_to, Fits}
+use Rattle.paged_store.specs.Paged.{no_draft, drafted, drafted_in, Paged, state_of, paged_by}
+use Rattle.paged_store.specs.inner.Fine.{counts_of, sum_to, Fits}
 use Rattle.paged_store.specs.Stores.{new_meaning}
 use Rattle.paged_store.proofs.NewState.{new_sound, new_kept, new_means}
 use Rattle.paged_store.proofs.FineLemmas.{Leaves, leaves_by}

@@ -13,7 +13,8 @@ use Rattle.paged_store.specs.Words.{Words, index_by, index_size, in_index}
 use Rattle.paged_store.specs.inner.Formed.{Lays, AgreeOn}
 use Rattle.paged_store.specs.inner.Indexing.{Avoids, KeyAvoids}
 use Rattle.paged_store.specs.inner.Sight.{Stands, CanRead, IsKeySeen}
-use Rattle.paged_store.specs.inner.State.{State, Sound}
+use Rattle.paged_store.specs.State.{State}
+use Rattle.paged_store.specs.inner.Sound.{Sound}
 use Rattle.paged_store.specs.inner.Written.{Changed, owned_by, parted}
 use Rattle.paged_store.proofs.FrameLemmas.{agree_on_own, formed_agrees, lays_agrees, places_agree}
 use Rattle.paged_store.proofs.PartLemmas.{false_from, own_of_record, index_not_head, index_not_body}

@@ -4,7 +4,8 @@ use Rattle.py_data.specs.Heap.{no_records}
 use Rattle.seg_store.specs.Meaning.{Meaning, no_part}
 use Rattle.seg_store.specs.Store.{IsStore}
 use Rattle.paged_store.specs.Words.{Words}
-use Rattle.paged_store.specs.inner.State.{meaning_in, Sound}
+use Rattle.paged_store.specs.State.{meaning_in}
+use Rattle.paged_store.specs.inner.Sound.{Sound}
 use Rattle.paged_store.specs.inner.Moves.{nowhere, never, empty_hand, new_state}
 use Rattle.paged_store.proofs.FreeLemmas.{same_step, empty_fits}
 

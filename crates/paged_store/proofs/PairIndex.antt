@@ -21,7 +21,7 @@ use Rattle.dict_index.proofs.Kept.{class_kept}
 use Rattle.dict_index.proofs.Right.{right_of, index_of}
 use Rattle.paged_store.specs.Words.{Words, size_of, kind_in, index_class_in, decode, kind_by, index_by, index_size}
 use Rattle.paged_store.specs.inner.Sight.{records_in}
-use Rattle.paged_store.specs.inner.State.{heap_of}
+use Rattle.paged_store.specs.State.{heap_of}
 use Rattle.paged_store.specs.inner.Indexed.{class_by, index_words, home_by, pairs_by, IsIndexed}
 use Rattle.paged_store.specs.inner.Keyed.{HasKeys}
 use Rattle.paged_store.proofs.IndexFrame.{SameFixed, Renews, right_same, there_is, keeps_fixed, classes_same}

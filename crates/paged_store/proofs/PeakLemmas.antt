@@ -14,8 +14,9 @@ use Rattle.paged_store.specs.Words.{Words}
 use Rattle.paged_store.specs.inner.Claiming.{extent_for, times, RisesBy, Denies}
 use Rattle.paged_store.specs.inner.Growing.{grown_class, grown_index, grown_extents}
 use Rattle.paged_store.specs.inner.Making.{body_class, index_class, made_extents}
-use Rattle.paged_store.specs.inner.State.{meaning_in}
-use Rattle.paged_store.specs.inner.Paged.{Paged, of_class, one_if, state_of, counts_of, Fine}
+use Rattle.paged_store.specs.State.{meaning_in}
+use Rattle.paged_store.specs.Paged.{Paged, one_if, state_of}
+use Rattle.paged_store.specs.inner.Fine.{of_class, counts_of, Fine}
 use Rattle.paged_store.proofs.CountLemmas.{in_use_counted}
 use Rattle.paged_store.proofs.EndLemmas.{class_both}
 use Rattle.paged_store.proofs.ExtentCounts.{no_class}

@@ -6,7 +6,8 @@ use Rattle.seg_store.specs.Meaning.{sees}
 use Rattle.seg_store.specs.Calls.{ended, after_publish}
 use Rattle.paged_store.specs.Words.{Words, in_record}
 use Rattle.paged_store.specs.inner.Formed.{Formed, Lays, AgreeOn}
-use Rattle.paged_store.specs.inner.State.{Hand, State, heap_of, part_in, meaning_in, FitsHand, FitsBefore, Sound}
+use Rattle.paged_store.specs.State.{Hand, State, heap_of, part_in, meaning_in}
+use Rattle.paged_store.specs.inner.Sound.{FitsHand, FitsBefore, Sound}
 use Rattle.paged_store.specs.inner.Moves.{empty_hand, given, given_by, gives, publishes}
 use Rattle.paged_store.proofs.FrameLemmas.{decode_agrees, formed_agrees, lays_agrees, places_agree, agree_on_own}
 use Rattle.paged_store.proofs.OwnerLemmas.{place_own}

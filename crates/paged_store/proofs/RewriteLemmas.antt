@@ -4,7 +4,8 @@ use Rattle.std.proofs.lemmas.Bool.{false_from_ne_true, or_cases, or_parts, or_le
 use Rattle.std.proofs.lemmas.Bool.Decides.{eqb_tells}
 use Rattle.paged_store.specs.Words.{Words, decode}
 use Rattle.paged_store.specs.inner.Formed.{Formed, Lays, AgreeOn}
-use Rattle.paged_store.specs.inner.State.{Hand, State, taken_since, FitsHand, FitsBefore, Sound}
+use Rattle.paged_store.specs.State.{Hand, State}
+use Rattle.paged_store.specs.inner.Sound.{taken_since, FitsHand, FitsBefore, Sound}
 use Rattle.paged_store.specs.inner.Moves.{written, owned, parted, Rewrites}
 use Rattle.paged_store.proofs.FrameLemmas.{decode_agrees, formed_agrees, lays_agrees, agree_on_own}
 use Rattle.paged_store.proofs.OwnerLemmas.{SameOwner, lays_owner, place_own}

@@ -9,7 +9,8 @@ use Rattle.page_table.specs.Counting.{in_use, Takes}
 use Rattle.page_table.proofs.Spans.{put_here, put_elsewhere}
 use Rattle.page_table.proofs.CountingLemmas.{peak_law, take_law}
 use Rattle.paged_store.specs.declared.extent.Extent.{Extent}
-use Rattle.paged_store.specs.inner.Paged.{one_if, of_class}
+use Rattle.paged_store.specs.Paged.{one_if}
+use Rattle.paged_store.specs.inner.Fine.{of_class}
 use Rattle.paged_store.specs.inner.Ending.{GivenBack}
 use Rattle.paged_store.specs.inner.Claiming.{Claims, times, RisesBy}
 use Rattle.paged_store.proofs.ClaimLemmas.{times_both}

@@ -4,7 +4,8 @@ use Rattle.std.proofs.lemmas.Bool.{both_ways, false_from_ne_true}
 use Rattle.seg_store.specs.Meaning.{saw}
 use Rattle.paged_store.specs.Words.{Words}
 use Rattle.paged_store.specs.inner.Formed.{Lays}
-use Rattle.paged_store.specs.inner.State.{State, heap_of, meaning_in, Sound}
+use Rattle.paged_store.specs.State.{State, heap_of, meaning_in}
+use Rattle.paged_store.specs.inner.Sound.{Sound}
 use Rattle.paged_store.proofs.SightLemmas.{seen_lays, seen_words}
 use Rattle.paged_store.proofs.FreeLemmas.{same_step}
 

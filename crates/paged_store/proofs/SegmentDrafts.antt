@@ -3,7 +3,7 @@ use Rattle.std.proofs.Common.{◌≡◌, ℕ, ◌<◌, Bool, true, false, cond, 
 use Rattle.std.proofs.lemmas.Option.{slice_get-get_or}
 use Rattle.seg_store.proofs.Slices.{set_table}
 use Rattle.paged_store.specs.declared.draft.Draft.{Draft}
-use Rattle.paged_store.specs.inner.Paged.{Drafted, drafted, drafted_in}
+use Rattle.paged_store.specs.Paged.{Drafted, drafted, drafted_in}
 use Rattle.paged_store.specs.inner.Moves.{put}
 
 abbrev pub drafts_in : List Draft → ℕ → Drafted

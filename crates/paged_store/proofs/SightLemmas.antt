@@ -6,7 +6,8 @@ use Rattle.seg_store.specs.Meaning.{over, sees, holds}
 use Rattle.seg_store.specs.Store.{IsFree}
 use Rattle.paged_store.specs.Words.{Words, decode, in_record}
 use Rattle.paged_store.specs.inner.Formed.{Formed, Lays, AgreeOn}
-use Rattle.paged_store.specs.inner.State.{State, heap_of, meaning_in, Sound}
+use Rattle.paged_store.specs.State.{State, heap_of, meaning_in}
+use Rattle.paged_store.specs.inner.Sound.{Sound}
 use Rattle.paged_store.proofs.FrameLemmas.{decode_agrees, formed_agrees, lays_agrees}
 use Rattle.paged_store.proofs.OwnerLemmas.{place_own}
 use Rattle.paged_store.proofs.StateLemmas.{agree_unheld, image_some, holds_some, reserved_place, free_image, free_now}

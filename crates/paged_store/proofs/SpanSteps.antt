@@ -8,7 +8,7 @@ use Rattle.paged_store.specs.declared.extent.Extent.{Extent}
 use Rattle.paged_store.specs.declared.extent.Note.{Note}
 use Rattle.paged_store.specs.Words.{Words}
 use Rattle.paged_store.specs.inner.Moves.{put, given, nowhere}
-use Rattle.paged_store.specs.inner.Paged.{in_spans, in_extent, in_extents, rewound}
+use Rattle.paged_store.specs.Paged.{in_spans, in_extent, in_extents, rewound}
 use Rattle.paged_store.specs.inner.Ending.{LieSideBySide, pushes, restores, with_words}
 use Rattle.paged_store.proofs.MeaningLemmas.{put_here}
 use Rattle.paged_store.proofs.OverLemmas.{put_self}

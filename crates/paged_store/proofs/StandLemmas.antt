@@ -15,8 +15,10 @@ use Rattle.paged_store.specs.declared.sight.Seen.{Seen}
 use Rattle.paged_store.specs.declared.sight.Seen.TheVariants.{Image, Segment}
 use Rattle.paged_store.specs.Words.{Words, decode, body_by, body_size, in_head, in_body, in_index, in_record}
 use Rattle.paged_store.specs.inner.Formed.{Formed, HasIndex}
-use Rattle.paged_store.specs.inner.State.{State, meaning_in, Sound}
-use Rattle.paged_store.specs.inner.Paged.{Paged, Fine, state_of}
+use Rattle.paged_store.specs.State.{State, meaning_in}
+use Rattle.paged_store.specs.inner.Sound.{Sound}
+use Rattle.paged_store.specs.Paged.{Paged, state_of}
+use Rattle.paged_store.specs.inner.Fine.{Fine}
 use Rattle.paged_store.specs.inner.Sight.{Stands, CanRead, IsSeen, words_seen, record_seen, IsKeySeen, KeysSeen, IsKnown, KnowsKeys}
 use Rattle.paged_store.proofs.SpanLemmas.{in_span_at, head_at, in_first, in_second}
 use Rattle.paged_store.proofs.StateLemmas.{image_reserved}

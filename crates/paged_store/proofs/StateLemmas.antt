@@ -4,7 +4,8 @@ use Rattle.std.proofs.lemmas.Bool.{both_ways, false_from_ne_true, cond-true, con
 use Rattle.std.proofs.lemmas.Bool.Decides.{eqb_tells}
 use Rattle.paged_store.specs.Words.{Words, in_record}
 use Rattle.paged_store.specs.inner.Formed.{Lays, AgreeOn}
-use Rattle.paged_store.specs.inner.State.{Hand, State, FitsHand, Sound}
+use Rattle.paged_store.specs.State.{Hand, State}
+use Rattle.paged_store.specs.inner.Sound.{FitsHand, Sound}
 use Rattle.paged_store.specs.inner.Moves.{put}
 use Rattle.paged_store.proofs.FrameLemmas.{agree_on_own}
 use Rattle.paged_store.proofs.OwnerLemmas.{place_own, SameOwner, lays_owner, address_own}

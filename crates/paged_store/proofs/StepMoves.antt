@@ -5,7 +5,8 @@ use Rattle.std.proofs.lemmas.Bool.Decides.{eqb_tells}
 use Rattle.py_data.specs.Sight.{mem}
 use Rattle.seg_store.specs.Calls.{opened, undone, after_open, after_undo}
 use Rattle.paged_store.specs.Words.{Words}
-use Rattle.paged_store.specs.inner.State.{State, part_in, meaning_in, fresh, FitsHand, FitsBefore, Sound}
+use Rattle.paged_store.specs.State.{State, part_in, meaning_in}
+use Rattle.paged_store.specs.inner.Sound.{fresh, FitsHand, FitsBefore, Sound}
 use Rattle.paged_store.specs.inner.Moves.{opens, undoes, freed}
 use Rattle.paged_store.proofs.StateLemmas.{put_each, put_two, put_apart, hand_owner}
 use Rattle.paged_store.proofs.MeaningLemmas.{put_here, put_there, part_by, meaning_set}

@@ -2,7 +2,8 @@
 use Rattle.std.proofs.Common.{◌≡◌, ℕ, ◌+◌, ◌<◌, ◌≤◌, inl, inr, refl, arith}
 use Rattle.std.proofs.lemmas.Bool.{cases_lt}
 use Rattle.paged_store.specs.Words.{Words}
-use Rattle.paged_store.specs.inner.State.{State, meaning_in, Sound}
+use Rattle.paged_store.specs.State.{State, meaning_in}
+use Rattle.paged_store.specs.inner.Sound.{Sound}
 use Rattle.paged_store.specs.inner.Moves.{stocked, Stocks}
 use Rattle.paged_store.proofs.StateLemmas.{none_or_some}
 

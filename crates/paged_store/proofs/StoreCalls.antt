@@ -15,9 +15,10 @@ use Rattle.page_table.specs.Pages.{Table}
 use Rattle.page_table.specs.Lists.{Lists, table_of}
 use Rattle.paged_store.specs.declared.draft.Draft.{Draft}
 use Rattle.paged_store.specs.declared.store.PagedStore.{PagedStore}
-use Rattle.paged_store.specs.inner.State.{meaning_in}
+use Rattle.paged_store.specs.State.{meaning_in}
 use Rattle.paged_store.specs.inner.Moves.{put}
-use Rattle.paged_store.specs.inner.Paged.{Drafted, drafted, drafted_in, names, Paged, state_of, paged_by, Fits, IsPaged}
+use Rattle.paged_store.specs.Paged.{Drafted, drafted, drafted_in, Paged, state_of, paged_by}
+use Rattle.paged_store.specs.inner.Fine.{names, Fits, IsPaged}
 use Rattle.paged_store.specs.Words.{decode}
 use Rattle.paged_store.specs.inner.Drafts.{with_lock, step_opened}
 use Rattle.paged_store.specs.Stores.{paged_of, paged_meaning}

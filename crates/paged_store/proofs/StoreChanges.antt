@@ -26,10 +26,11 @@ use Rattle.paged_store.specs.declared.sight.Seen.TheVariants.{Segment}
 use Rattle.paged_store.specs.declared.store.PagedStore.{PagedStore}
 use Rattle.paged_store.specs.Words.{Words, in_span, decode, kind_by, count_by, body_by, index_by, body_size, index_size, in_head, in_body, in_record}
 use Rattle.paged_store.specs.inner.Moves.{put}
-use Rattle.paged_store.specs.inner.State.{heap_of, meaning_in, Sound}
+use Rattle.paged_store.specs.State.{heap_of, meaning_in}
+use Rattle.paged_store.specs.inner.Sound.{Sound}
 use Rattle.paged_store.specs.inner.Indexed.{index_words, pairs_by, IsIndexed}
 use Rattle.paged_store.specs.inner.Indexing.{words_from, FreeSlot, paired_words, pair_places, AddsPair, RefusesPair, leave_places, DropsIndexed}
-use Rattle.paged_store.specs.inner.Paged.{drafted, state_of, paged_by}
+use Rattle.paged_store.specs.Paged.{drafted, state_of, paged_by}
 use Rattle.paged_store.specs.inner.Sight.{Stands, CanRead, IsKeySeen, words_seen}
 use Rattle.paged_store.specs.Stores.{paged_of, paged_meaning}
 use Rattle.paged_store.specs.inner.Writing.{desk, Wrote, Refused, with_count, pushed_words, cut_words}

@@ -8,9 +8,10 @@ use Rattle.page_table.specs.Pages.{Table}
 use Rattle.page_table.specs.Lists.{Lists, table_of}
 use Rattle.paged_store.specs.declared.draft.Draft.{Draft}
 use Rattle.paged_store.specs.declared.store.PagedStore.{PagedStore}
-use Rattle.paged_store.specs.inner.State.{meaning_in}
+use Rattle.paged_store.specs.State.{meaning_in}
 use Rattle.paged_store.specs.inner.Moves.{put}
-use Rattle.paged_store.specs.inner.Paged.{Drafted, no_draft, drafted, Paged, state_of, held_by, touched_by, taken_since, FitsTable}
+use Rattle.paged_store.specs.Paged.{Drafted, no_draft, drafted, Paged, state_of, taken_since}
+use Rattle.paged_store.specs.inner.Fine.{held_by, touched_by, FitsTable}
 use Rattle.paged_store.specs.inner.Drafts.{step_undone}
 use Rattle.paged_store.specs.inner.Ending.{HaveRoom, pushes, restores, rewinds, GivenBack, among, free_of, Released, Shown, made_since}
 use Rattle.paged_store.specs.Stores.{paged_of, paged_meaning}

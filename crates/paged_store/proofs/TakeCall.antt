@@ -7,9 +7,11 @@ use Rattle.std.proofs.lemmas.List.{drop-append-le, get_or_append_left, get_or-ap
 use Rattle.page_table.specs.Pages.{Table, Shelf, Lies}
 use Rattle.paged_store.specs.declared.extent.Extent.{Extent}
 use Rattle.paged_store.specs.Words.{Words}
-use Rattle.paged_store.specs.inner.State.{State, Sound}
+use Rattle.paged_store.specs.State.{State}
+use Rattle.paged_store.specs.inner.Sound.{Sound}
 use Rattle.paged_store.specs.inner.Moves.{Stocks}
-use Rattle.paged_store.specs.inner.Paged.{Drafted, Paged, state_of, in_spans, in_extents, extents_at, one_if, spare_at, noted, rewound, touched_by, taken_since, word_before, FitsTable, Fine}
+use Rattle.paged_store.specs.Paged.{Drafted, Paged, state_of, in_spans, in_extents, extents_at, one_if, spare_at, rewound, taken_since, word_before}
+use Rattle.paged_store.specs.inner.Fine.{noted, touched_by, FitsTable, Fine}
 use Rattle.paged_store.specs.inner.Claiming.{newly, Claims}
 use Rattle.paged_store.specs.inner.Taking.{Takes}
 use Rattle.paged_store.specs.inner.Writing.{Desk, Wrote, MayWrite}

@@ -6,7 +6,7 @@ use Rattle.std.proofs.Math.Seq.{take-append_seam, drop-append_seam}
 use Rattle.page_table.specs.Pages.{Table, IsTable}
 use Rattle.paged_store.specs.declared.extent.Extent.{Extent}
 use Rattle.paged_store.specs.Words.{in_span}
-use Rattle.paged_store.specs.inner.Paged.{in_extents}
+use Rattle.paged_store.specs.Paged.{in_extents}
 use Rattle.paged_store.specs.inner.Claiming.{Claims}
 use Rattle.paged_store.specs.inner.Ending.{ExtentsLie, HaveClasses, LieSideBySide, HaveRoom, GivenBack}
 use Rattle.paged_store.specs.inner.Taking.{OwnExtents, Takes}

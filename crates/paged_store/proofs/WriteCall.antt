@@ -15,12 +15,14 @@ use Rattle.page_table.specs.Pages.{Table, Shelf}
 use Rattle.paged_store.specs.declared.extent.Span.{Span}
 use Rattle.paged_store.specs.declared.extent.Extent.{Extent}
 use Rattle.paged_store.specs.Words.{Words, decode, kind_by}
-use Rattle.paged_store.specs.inner.State.{State, heap_of, part_in, meaning_in, Sound}
+use Rattle.paged_store.specs.State.{State, heap_of, part_in, meaning_in}
+use Rattle.paged_store.specs.inner.Sound.{Sound}
 use Rattle.paged_store.specs.inner.Counted.{IsCounted}
 use Rattle.paged_store.specs.inner.Keyed.{HasKeys, IsKeyed}
 use Rattle.paged_store.specs.inner.Indexed.{IsIndexed, HasIndexes}
 use Rattle.paged_store.specs.inner.Moves.{put, written, stocked, Stocks, owned, parted, Rewrites, writes}
-use Rattle.paged_store.specs.inner.Paged.{Drafted, Paged, state_of, in_spans, in_extent, in_extents, extents_at, one_if, of_class, spare_at, taken_then, word_before, hand_now, hand_before, sum_to, counts_of, FitsTable, Fits, Fine}
+use Rattle.paged_store.specs.Paged.{Drafted, Paged, state_of, in_spans, in_extent, in_extents, extents_at, one_if, spare_at, taken_then, word_before, hand_now, hand_before}
+use Rattle.paged_store.specs.inner.Fine.{of_class, sum_to, counts_of, FitsTable, Fits, Fine}
 use Rattle.paged_store.specs.inner.Writing.{Desk, Wrote}
 use Rattle.paged_store.proofs.OverLemmas.{over_each, put_over, put_self, put_still}
 use Rattle.paged_store.proofs.StateLemmas.{put_each}

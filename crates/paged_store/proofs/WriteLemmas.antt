@@ -7,7 +7,7 @@ use Rattle.page_table.specs.Pages.{Table, after_write}
 use Rattle.py_data.specs.declared.value.Value.{Value}
 use Rattle.paged_store.specs.Words.{Words, in_span, count_by, body_by}
 use Rattle.paged_store.specs.inner.Moves.{nowhere}
-use Rattle.paged_store.specs.inner.Paged.{in_extents, rewound, taken_since, word_before}
+use Rattle.paged_store.specs.Paged.{in_extents, rewound, taken_since, word_before}
 use Rattle.paged_store.specs.inner.Written.{put_word, put_value, copied, slid, push_words, pair_words}
 use Rattle.paged_store.specs.inner.Writing.{Desk, Wrote, MayWrite, Readied, OwnSpan, CanPut, with_words, laid, put_values, with_count, pushed_words}
 use Rattle.paged_store.proofs.SpanLemmas.{in_span_holds, span_bounds}

@@ -6,7 +6,8 @@ use Rattle.py_data.specs.Sight.{mem}
 use Rattle.seg_store.specs.Meaning.{over, sees}
 use Rattle.seg_store.specs.Calls.{changed, after_change}
 use Rattle.paged_store.specs.Words.{Words, decode}
-use Rattle.paged_store.specs.inner.State.{State, heap_of, part_in, meaning_in, FitsHand, FitsBefore, Sound}
+use Rattle.paged_store.specs.State.{State, heap_of, part_in, meaning_in}
+use Rattle.paged_store.specs.inner.Sound.{FitsHand, FitsBefore, Sound}
 use Rattle.paged_store.specs.inner.Moves.{written, owned, parted, Rewrites, writes}
 use Rattle.paged_store.proofs.StateLemmas.{put_each, put_apart}
 use Rattle.paged_store.proofs.MeaningLemmas.{put_here, put_there, heap_put, part_by, meaning_set}

@@ -5,7 +5,7 @@ use Rattle.std.proofs.lemmas.List.{take-append-le}
 use Rattle.py_data.specs.Sight.{mem}
 use Rattle.paged_store.specs.Words.{Words}
 use Rattle.paged_store.specs.inner.Moves.{never, written}
-use Rattle.paged_store.specs.inner.Paged.{in_spans, in_extents, extents_at, hand_now, hand_before}
+use Rattle.paged_store.specs.Paged.{in_spans, in_extents, extents_at, hand_now, hand_before}
 use Rattle.paged_store.specs.inner.Writing.{Desk, Wrote}
 
 -- the hand has the words, and has touched the places besides

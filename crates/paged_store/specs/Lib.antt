@@ -1,3 +1,5 @@
 pub mod Words
+pub mod State
+pub mod Paged
 pub mod Stores
 pub mod inner

@@ -4,8 +4,8 @@ use Rattle.py_data.specs.Heap.{no_records}
 use Rattle.seg_store.specs.Meaning.{Meaning, no_part}
 use Rattle.page_table.specs.Pages.{Table}
 use Rattle.paged_store.specs.declared.store.PagedStore.{PagedStore}
-use Rattle.paged_store.specs.inner.State.{meaning_in}
-use Rattle.paged_store.specs.inner.Paged.{Paged, state_of, paged_by}
+use Rattle.paged_store.specs.State.{meaning_in}
+use Rattle.paged_store.specs.Paged.{Paged, state_of, paged_by}
 
 -- a store as its fields
 abbrev pub paged_of : PagedStore → Paged

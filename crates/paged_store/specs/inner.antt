@@ -1,12 +1,12 @@
 -- What code and proofs say to each other: nothing public rests on it.
 pub mod Formed
-pub mod State
+pub mod Sound
 pub mod Counted
 pub mod Keyed
 pub mod Moves
 pub mod Sight
 pub mod Indexed
-pub mod Paged
+pub mod Fine
 pub mod Drafts
 pub mod Ending
 pub mod Claiming

@@ -35,12 +35,13 @@ pub struct Draft {
 }
 
 impl Draft {
-    ghost use Rattle.paged_store.specs.inner.Paged.{drafted, no_draft, held_by, touched_by, taken_since, FitsTable};
+    ghost use Rattle.paged_store.specs.Paged.{drafted, no_draft, taken_since};
+    ghost use Rattle.paged_store.specs.inner.Fine.{held_by, touched_by, FitsTable};
     ghost use Rattle.paged_store.specs.inner.Ending.{HaveRoom, pushes, restores, rewinds, GivenBack, among, Released, Shown, made_since};
     ghost use Rattle.paged_store.specs.inner.Drafts.{with_lock, step_opened, step_undone};
 
     /// Nothing. It takes no memory.
-    #[tactic(auto, unfolding(crate::specs::inner::Paged::drafted))]
+    #[tactic(auto, unfolding(crate::specs::Paged::drafted))]
     pub fn new(alloc: Global) -> Draft
         ensures { drafted result ≡ no_draft }
     {
@@ -57,7 +58,7 @@ impl Draft {
     }
 
     /// It locks a record of the image.
-    #[tactic(auto, unfolding(crate::specs::inner::Paged::drafted))]
+    #[tactic(auto, unfolding(crate::specs::Paged::drafted))]
     pub fn lock(&mut self, a: Addr) -> Result<(), NoMemory>
         ensures ok { OnOk result (drafted self.new ≡ with_lock a.0 (drafted self.old)) }
         ensures err { OnErr result (drafted self.new ≡ drafted self.old) }
@@ -67,7 +68,7 @@ impl Draft {
     }
 
     /// Its step begins.
-    #[tactic(auto, unfolding(crate::specs::inner::Paged::drafted))]
+    #[tactic(auto, unfolding(crate::specs::Paged::drafted))]
     pub fn open(&mut self)
         ensures { drafted self.new ≡ step_opened (drafted self.old) }
     {
@@ -78,7 +79,7 @@ impl Draft {
     }
 
     /// Its step is taken back, but for the words that it wrote.
-    #[tactic(auto, unfolding(crate::specs::inner::Paged::drafted))]
+    #[tactic(auto, unfolding(crate::specs::Paged::drafted))]
     pub fn undo(&mut self)
         ensures { drafted self.new ≡ step_undone (drafted self.old) }
     {
@@ -89,7 +90,7 @@ impl Draft {
     }
 
     /// It has nothing in hand any more.
-    #[tactic(auto, unfolding(crate::specs::inner::Paged::drafted))]
+    #[tactic(auto, unfolding(crate::specs::Paged::drafted))]
     pub fn clear(&mut self)
         ensures { drafted self.new ≡ no_draft }
     {

@@ -1,7 +1,7 @@
 //! Words of spans and extents that are published, restored or written back, and extents that are given back.
 ghost use Rattle.std.specs.Prelude.{◌≡◌, ◌<◌, length};
 ghost use Rattle.page_table.specs.Lists.{table_of};
-ghost use Rattle.paged_store.specs.inner.Paged.{in_spans, in_extents, rewound};
+ghost use Rattle.paged_store.specs.Paged.{in_spans, in_extents, rewound};
 ghost use Rattle.paged_store.specs.inner.Ending.{SpansLie, ExtentsLie, HaveClasses, LieSideBySide, NotesLie, HaveRoom, pushes, restores, with_words, GivenBack};
 
 use crate::extent::{Extent, Note, Span};

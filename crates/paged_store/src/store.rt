@@ -4,7 +4,8 @@ ghost use Rattle.py_data.specs.Heap.{Has};
 ghost use Rattle.seg_store.specs.Meaning.{sees, holds};
 ghost use Rattle.seg_store.specs.Store.{NoOther, IsHolder, IsStore, IsEmpty};
 ghost use Rattle.seg_store.specs.Calls.{after_begin, after_mark, after_lock, after_open, after_undo, after_publish, after_drop};
-ghost use Rattle.paged_store.specs.inner.Paged.{IsPaged, no_draft, drafted_in};
+ghost use Rattle.paged_store.specs.Paged.{no_draft, drafted_in};
+ghost use Rattle.paged_store.specs.inner.Fine.{IsPaged};
 
 use crate::books::is_shown;
 use crate::draft::Draft;
@@ -72,7 +73,7 @@ impl PagedStore {
     }
 
     /// How many segments there are.
-    #[tactic(auto, unfolding(crate::specs::inner::State::meaning_in, crate::specs::inner::Paged::state_of))]
+    #[tactic(auto, unfolding(crate::specs::State::meaning_in, crate::specs::Paged::state_of))]
     pub fn segment_count(&self) -> u8
         ensures { result ≡ (paged_meaning self.now).segments }
     {
@@ -87,7 +88,7 @@ impl PagedStore {
     }
 
     /// The most words that can be taken.
-    #[tactic(auto, unfolding(crate::specs::inner::State::meaning_in, crate::specs::inner::Paged::state_of))]
+    #[tactic(auto, unfolding(crate::specs::State::meaning_in, crate::specs::Paged::state_of))]
     pub fn word_limit(&self) -> u64
         ensures { result ≡ (paged_meaning self.now).limit }
     {

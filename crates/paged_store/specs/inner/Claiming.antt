@@ -6,7 +6,8 @@ use Rattle.seg_store.specs.declared.store.StoreFault.TheVariants.{Full, OutOfMem
 use Rattle.page_table.specs.Pages.{Table, limit}
 use Rattle.page_table.specs.Counting.{in_use}
 use Rattle.paged_store.specs.declared.extent.Extent.{Extent}
-use Rattle.paged_store.specs.inner.Paged.{one_if, of_class, extents_at, spare_at}
+use Rattle.paged_store.specs.Paged.{one_if, extents_at, spare_at}
+use Rattle.paged_store.specs.inner.Fine.{of_class}
 use Rattle.paged_store.specs.inner.Ending.{ExtentsLie, HaveClasses}
 
 -- the extent of a class at a place; none of class 0

@@ -1,6 +1,6 @@
 -- What calls do to a segment's draft. What code and proofs say to each other: nothing public rests on it.
 use Rattle.std.specs.Prelude.{ℕ, [], ◌∷◌, ◌++◌, length, take}
-use Rattle.paged_store.specs.inner.Paged.{Drafted, taken_then}
+use Rattle.paged_store.specs.Paged.{Drafted, taken_then}
 
 -- a record of the image is locked
 abbrev pub with_lock : ℕ → Drafted → Drafted

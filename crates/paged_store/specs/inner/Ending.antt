@@ -9,7 +9,8 @@ use Rattle.paged_store.specs.declared.extent.Extent.{Extent}
 use Rattle.paged_store.specs.declared.extent.Note.{Note}
 use Rattle.paged_store.specs.Words.{Words, in_span}
 use Rattle.paged_store.specs.inner.Moves.{put, given}
-use Rattle.paged_store.specs.inner.Paged.{Drafted, in_extents, of_class, extents_at, rewound, spare_at, taken_since}
+use Rattle.paged_store.specs.Paged.{Drafted, in_extents, extents_at, rewound, spare_at, taken_since}
+use Rattle.paged_store.specs.inner.Fine.{of_class}
 
 -- ---- where spans, extents and notes lie
 

@@ -5,7 +5,7 @@ use Rattle.page_table.specs.Pages.{Table}
 use Rattle.py_data.specs.declared.value.Value.{Value}
 use Rattle.paged_store.specs.declared.extent.Extent.{Extent}
 use Rattle.paged_store.specs.Words.{Words, in_span, class_in, index_class_in, kind_by, count_by, body_size, in_head, in_body}
-use Rattle.paged_store.specs.inner.Paged.{spare_at}
+use Rattle.paged_store.specs.Paged.{spare_at}
 use Rattle.paged_store.specs.inner.Sight.{Stands}
 use Rattle.paged_store.specs.inner.Written.{put_word, next_index}
 use Rattle.paged_store.specs.inner.Writing.{Desk, Refused, Readied, CanPut, with_words, put_values, next_body_size, next_index_size, grown_words}

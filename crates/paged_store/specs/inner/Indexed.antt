@@ -8,7 +8,7 @@ use Rattle.dict_index.specs.Keys.{KeyClass, class_of, home_of}
 use Rattle.dict_index.specs.Index.{IsRight}
 use Rattle.paged_store.specs.Words.{Words, decode, kind_by, index_by, index_size}
 use Rattle.paged_store.specs.inner.Sight.{records_in}
-use Rattle.paged_store.specs.inner.State.{State}
+use Rattle.paged_store.specs.State.{State}
 
 -- what a value is as a key, where the records are those that words stand for
 abbrev pub class_by : Words → Value → KeyClass

@@ -4,7 +4,7 @@ use Rattle.py_data.specs.Heap.{Marks}
 use Rattle.py_data.specs.Sight.{no_marks, with_mark}
 use Rattle.paged_store.specs.Words.{Words}
 use Rattle.paged_store.specs.inner.Formed.{Formed, Lays}
-use Rattle.paged_store.specs.inner.State.{Hand, State}
+use Rattle.paged_store.specs.State.{Hand, State}
 
 -- the same with x for one number
 abbrev pub put : {A : Type 0} → ℕ → A → (ℕ → A) → ℕ → A

@@ -3,7 +3,7 @@
 use Rattle.std.specs.Prelude.{◌≡◌, ℕ, ◌/◌, Bool, true, List, ◌++◌}
 use Rattle.page_table.specs.Pages.{Table}
 use Rattle.paged_store.specs.declared.extent.Extent.{Extent}
-use Rattle.paged_store.specs.inner.Paged.{in_extents}
+use Rattle.paged_store.specs.Paged.{in_extents}
 use Rattle.paged_store.specs.inner.Claiming.{Claims}
 use Rattle.paged_store.specs.inner.Writing.{Desk}
 

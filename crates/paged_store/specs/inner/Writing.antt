@@ -10,7 +10,8 @@ use Rattle.paged_store.specs.declared.draft.Draft.{Draft}
 use Rattle.paged_store.specs.Words.{Words, in_span, listed, size_of, class_in, index_class_in, kind_by, count_by, body_by, in_head}
 use Rattle.dict_index.specs.Packed.{packed}
 use Rattle.paged_store.specs.inner.Written.{put_word, put_value, copied, next_index, next_head}
-use Rattle.paged_store.specs.inner.Paged.{Drafted, FitsTable, drafted, in_spans, in_extents, noted, taken_since, word_before}
+use Rattle.paged_store.specs.Paged.{Drafted, drafted, in_spans, in_extents, taken_since, word_before}
+use Rattle.paged_store.specs.inner.Fine.{FitsTable, noted}
 
 pub record Desk : Type 0 where
   pub table : Table

@@ -2,7 +2,7 @@ use Rattle.std.proofs.Common.{ℕ, List, [], ◌∷◌, ap, refl, arith}
 use Rattle.std.proofs.lemmas.Result.{err_from_is_err_and}
 use Rattle.page_table.specs.Pages.{Table}
 use Rattle.page_table.specs.Lists.{table_of}
-use Rattle.paged_store.specs.inner.Paged.{drafted}
+use Rattle.paged_store.specs.Paged.{drafted}
 use Rattle.paged_store.specs.inner.Growing.{grown_class, grown_index}
 use Rattle.paged_store.specs.inner.Writing.{desk}
 use Rattle.paged_store.proofs.GrowWrites.{head_word_small, grown_class_is, grown_index_is}

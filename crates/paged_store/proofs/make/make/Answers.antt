@@ -3,7 +3,7 @@ use Rattle.py_data.specs.Collection.{places}
 use Rattle.page_table.specs.Pages.{Table}
 use Rattle.page_table.specs.Lists.{table_of}
 use Rattle.paged_store.specs.inner.Making.{body_class, index_class}
-use Rattle.paged_store.specs.inner.Paged.{Drafted, drafted}
+use Rattle.paged_store.specs.Paged.{Drafted, drafted}
 use Rattle.paged_store.specs.inner.Writing.{desk}
 use Rattle.paged_store.proofs.GrowTakes.{ends_at}
 use Rattle.paged_store.proofs.MakeTakes.{classes_few, head_can, body_even, body_can, index_can, takes_made, takes_besides, made_set, made_cut, made_length, made_pushed, words_made, places_by}

@@ -1,6 +1,6 @@
 use Rattle.std.proofs.Common.{refl}
 use Rattle.page_table.specs.Lists.{table_of}
-use Rattle.paged_store.specs.inner.Paged.{drafted}
+use Rattle.paged_store.specs.Paged.{drafted}
 use Rattle.paged_store.specs.inner.Writing.{desk}
 use Rattle.paged_store.proofs.DeskLemmas.{on_err, refused_first, refused_last, readied_span}
 use Rattle.paged_store.proofs.ready.ready.Goals as goal

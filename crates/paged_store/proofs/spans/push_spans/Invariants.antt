@@ -1,6 +1,6 @@
 use Rattle.std.proofs.Common.{◌≡◌, take}
 use Rattle.page_table.specs.Lists.{table_of}
-use Rattle.paged_store.specs.inner.Paged.{in_spans}
+use Rattle.paged_store.specs.Paged.{in_spans}
 use Rattle.paged_store.specs.inner.Ending.{pushes}
 use Rattle.paged_store.proofs.spans.push_spans.Given as goal
 

@@ -2,7 +2,7 @@ use Rattle.std.proofs.Common.{◌∙◌, sym, ap, subst, arith}
 use Rattle.std.proofs.lemmas.List.{take_all}
 use Rattle.page_table.specs.Pages.{Table}
 use Rattle.page_table.specs.Lists.{table_of}
-use Rattle.paged_store.specs.inner.Paged.{in_extents}
+use Rattle.paged_store.specs.Paged.{in_extents}
 use Rattle.paged_store.specs.inner.Ending.{ExtentsLie, restores}
 use Rattle.paged_store.proofs.SpanSteps.{restore_run_step}
 use Rattle.paged_store.proofs.spans.restore_extents.Goals as goal

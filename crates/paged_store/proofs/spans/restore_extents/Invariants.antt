@@ -1,6 +1,6 @@
 use Rattle.std.proofs.Common.{◌≡◌, ◌-◌, ◌≤◌, length, take}
 use Rattle.page_table.specs.Lists.{table_of}
-use Rattle.paged_store.specs.inner.Paged.{in_extents}
+use Rattle.paged_store.specs.Paged.{in_extents}
 use Rattle.paged_store.specs.inner.Ending.{restores}
 use Rattle.paged_store.proofs.spans.restore_extents.Given as goal
 

@@ -1,7 +1,7 @@
 use Rattle.std.proofs.Common.{◌∙◌, ap, arith}
 use Rattle.std.proofs.lemmas.List.{take_all}
 use Rattle.page_table.specs.Lists.{table_of}
-use Rattle.paged_store.specs.inner.Paged.{in_spans}
+use Rattle.paged_store.specs.Paged.{in_spans}
 use Rattle.paged_store.specs.inner.Ending.{restores}
 use Rattle.paged_store.proofs.SpanSteps.{restore_span_step}
 use Rattle.paged_store.proofs.spans.restore_spans.Goals as goal

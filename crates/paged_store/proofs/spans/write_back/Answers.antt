@@ -1,7 +1,7 @@
 use Rattle.std.proofs.Common.{◌≡◌, ◌+◌, ◌-◌, ◌/◌, get_or, drop, ap, arith, ◌∙◌}
 use Rattle.page_table.specs.Pages.{Table}
 use Rattle.page_table.specs.Lists.{table_of}
-use Rattle.paged_store.specs.inner.Paged.{rewound}
+use Rattle.paged_store.specs.Paged.{rewound}
 use Rattle.paged_store.specs.inner.Ending.{with_words}
 use Rattle.paged_store.proofs.SpanSteps.{write_step}
 use Rattle.paged_store.proofs.spans.write_back.Goals as goal

@@ -1,6 +1,6 @@
 use Rattle.std.proofs.Common.{◌≡◌, ◌≤◌, length, drop}
 use Rattle.page_table.specs.Lists.{table_of}
-use Rattle.paged_store.specs.inner.Paged.{rewound}
+use Rattle.paged_store.specs.Paged.{rewound}
 use Rattle.paged_store.specs.inner.Ending.{with_words}
 use Rattle.paged_store.proofs.spans.write_back.Given as goal
 

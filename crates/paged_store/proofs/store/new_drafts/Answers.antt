@@ -1,6 +1,6 @@
 use Rattle.std.proofs.Common.{rules, arith, ◌≡◌, ap, List, ◌∷◌, [], ◌++◌, length, length-append, sym, subst, ℕ, slice_get}
 use Rattle.paged_store.specs.declared.draft.Draft.{Draft}
-use Rattle.paged_store.specs.inner.Paged.{no_draft, drafted_in}
+use Rattle.paged_store.specs.Paged.{no_draft, drafted_in}
 use Rattle.paged_store.proofs.NewCall.{draft_more}
 use Rattle.paged_store.proofs.store.new_drafts.Goals as goal
 

@@ -1,5 +1,5 @@
 use Rattle.std.proofs.Common.{◌≡◌, ℕ, length, slice_get}
-use Rattle.paged_store.specs.inner.Paged.{no_draft, drafted_in}
+use Rattle.paged_store.specs.Paged.{no_draft, drafted_in}
 use Rattle.paged_store.proofs.store.new_drafts.Given as goal
 
 abbrev pub invariant-segments : goal.invariant-segments

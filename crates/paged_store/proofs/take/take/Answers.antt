@@ -4,7 +4,7 @@ use Rattle.page_table.specs.Pages.{Table}
 use Rattle.page_table.specs.Lists.{table_of}
 use Rattle.paged_store.specs.declared.extent.Extent.{Extent}
 use Rattle.paged_store.specs.inner.Claiming.{extent_for}
-use Rattle.paged_store.specs.inner.Paged.{drafted}
+use Rattle.paged_store.specs.Paged.{drafted}
 use Rattle.paged_store.specs.inner.Writing.{desk}
 use Rattle.paged_store.proofs.ClaimLemmas.{claims_none}
 use Rattle.paged_store.proofs.TakeLemmas.{takes_none, takes_all, takes_back, takes_kept, room_opened, lie_opened, lie_claimed, classes_claimed, last_ones}

@@ -1,6 +1,6 @@
 use Rattle.std.proofs.Common.{sym}
 use Rattle.std.proofs.lemmas.List.{take-map}
-use Rattle.paged_store.specs.inner.Paged.{drafted}
+use Rattle.paged_store.specs.Paged.{drafted}
 use Rattle.paged_store.specs.inner.Drafts.{step_undone}
 use Rattle.paged_store.proofs.draft.Draft.undo.Goals as goal
 

@@ -1,22 +1,17 @@
--- The fields of a paged store, and the state that they stand for.
--- What code and proofs say to each other: nothing public rests on it.
-use Rattle.std.specs.Prelude.{◌≡◌, ℕ, zero, suc, ◌+◌, ◌*◌, ◌/◌, ◌^◌, ◌<◌, ◌≤◌, Bool, true, false, cond, ◌||◌, eqb, List, [], ◌∷◌, length, take, drop, get_or, slice_get, Option, Some, None}
+-- The fields of a paged store, and the state that they stand for. States `docs/HEAP.md`, "The paged store".
+use Rattle.std.specs.Prelude.{ℕ, zero, suc, ◌+◌, ◌^◌, Bool, false, cond, ◌||◌, eqb, List, [], ◌∷◌, take, drop, get_or, slice_get, Option, Some, None}
 use Rattle.py_data.specs.Collection.{places}
 use Rattle.py_data.specs.Heap.{Marks}
 use Rattle.py_data.specs.Sight.{mem}
-use Rattle.seg_store.specs.Store.{IsStore}
-use Rattle.page_table.specs.Pages.{Table, in_span, limit, Lies}
+use Rattle.page_table.specs.Pages.{Table, in_span, limit}
 use Rattle.page_table.specs.Lists.{Lists, table_of}
-use Rattle.seg_marks.specs.Marks.{Marked, marks_of, holders_of, segments, granules}
+use Rattle.seg_marks.specs.Marks.{Marked, marks_of, holders_of}
 use Rattle.paged_store.specs.declared.extent.Span.{Span}
 use Rattle.paged_store.specs.declared.extent.Extent.{Extent}
 use Rattle.paged_store.specs.declared.extent.Note.{Note}
 use Rattle.paged_store.specs.declared.draft.Draft.{Draft}
 use Rattle.paged_store.specs.Words.{Words}
-use Rattle.paged_store.specs.inner.State.{Hand, State, meaning_in, Sound}
-use Rattle.paged_store.specs.inner.Counted.{Counts, IsCounted}
-use Rattle.paged_store.specs.inner.Keyed.{IsKeyed}
-use Rattle.paged_store.specs.inner.Indexed.{HasIndexes}
+use Rattle.paged_store.specs.State.{Hand, State}
 
 -- ---- lists of spans, extents and notes
 
@@ -38,15 +33,6 @@ extents_at (x ∷ xs) p = one_if (in_extent x p) + extents_at xs p
 abbrev pub in_extents : List Extent → ℕ → Bool
 in_extents [] p = false
 in_extents (x ∷ xs) p = in_extent x p || in_extents xs p
-
--- how many of these extents are of a class
-abbrev pub of_class : ℕ → List Extent → ℕ
-of_class c [] = 0
-of_class c (x ∷ xs) = one_if (eqb c x.class) + of_class c xs
-
-abbrev pub noted : List Note → ℕ → Bool
-noted [] p = false
-noted (x ∷ xs) p = eqb p x.place || noted xs p
 
 -- the words before all writes that the notes tell of: of each place the first note decides
 abbrev pub rewound : List Note → Words → Words
@@ -109,14 +95,6 @@ drafted_in (Some d) = drafted d
 
 -- ---- a segment's hands
 
--- the records that it holds
-abbrev pub held_by : Drafted → ℕ → Bool
-held_by d a = mem a d.changed || mem a d.made
-
--- where it may have written
-abbrev pub touched_by : Drafted → ℕ → Bool
-touched_by d p = in_spans d.spans p || in_extents d.taken p
-
 abbrev pub taken_then : Drafted → List Extent
 taken_then d = take d.taken_before d.taken
 
@@ -171,62 +149,6 @@ state_of p = record {
   limit = limit p.table;
 }
 
--- ---- when they fit each other
-
--- a draft of segment k fits the table, and the addresses up to n
-pub record FitsTable (t : Table) (n k : ℕ) (d : Drafted) : Type 0 where
-  pub spans : (i : ℕ) (x : Span) → i < length d.spans
-      → (get_or d.spans i x).place + (get_or d.spans i x).words ≤ t.reserved
-  pub taken : (i : ℕ) (x : Extent) → i < length d.taken → Lies (get_or d.taken i x).class (get_or d.taken i x).place
-      t.reserved
-  pub classes : (i : ℕ) (x : Extent) → i < length d.taken →
-      (1 ≤ (get_or d.taken i x).class) × ((get_or d.taken i x).class ≤ 21)
-  pub notes : (p : ℕ) → noted d.notes p ≡ true → (p < t.reserved) × (t.own k (p / 512) ≡ true)
-  pub noted_touched : (p : ℕ) → noted d.notes p ≡ true → (in_spans d.spans p || in_extents d.taken p) ≡ true
-  pub holds : (a : ℕ) → (mem a d.changed || mem a d.made) ≡ true → a < n
-  pub spans_before : d.spans_before ≤ length d.spans
-  pub taken_before : d.taken_before ≤ length d.taken
-  pub made_before : d.made_before ≤ length d.made
-  -- no record was made twice, before the open step began and since
-  pub once : (a : ℕ) → mem a (take d.made_before d.made) ≡ true → mem a (drop d.made_before d.made) ≡ false
-
--- the sum of f at the numbers below n
-abbrev pub sum_to : ℕ → (ℕ → ℕ) → ℕ
-sum_to zero f = 0
-sum_to (suc n) f = sum_to n f + f n
-
--- it is that segment
-abbrev pub names : Option ℕ → ℕ → Bool
-names None k = false
-names (Some j) k = eqb j k
-
-pub record Fits (p : Paged) : Type 0 where
-  pub drafts : (k : ℕ) → FitsTable p.table (length p.present) k (p.drafts k)
-  pub holders : (k a : ℕ) → names (p.holder a) k ≡ (mem a (p.drafts k).changed || mem a (p.drafts k).made)
-  -- of each class no more extents are in hand and given back than there are
-  pub counted : (c : ℕ) → sum_to p.table.segments (λ k. of_class c (p.drafts k).taken) + length (p.table.shelf c).spare
-      ≤ (p.table.shelf c).total
-
--- how many extents a table and drafts count
-abbrev pub counted_by : Table → (ℕ → Drafted) → Counts
-counted_by t drafts = record {
-  spare = λ c. length (t.shelf c).spare;
-  total = λ c. (t.shelf c).total;
-  now = λ k c. of_class c (drafts k).taken;
-  before = λ k c. of_class c (taken_then (drafts k));
-}
-
-abbrev pub counts_of : Paged → Counts
-counts_of p = counted_by p.table p.drafts
-
-pub record Fine (p : Paged) : Type 0 where
-  pub fits : Fits p
-  pub counted : IsCounted (meaning_in (state_of p)) (counts_of p)
-  pub keyed : ∥ IsKeyed (meaning_in (state_of p)) ∥₁
-  pub indexed : HasIndexes (state_of p)
-  pub sound : ∥ ((own : Words) × ((role : Words) × Sound own role (state_of p))) ∥₁
-  pub known : ∥ IsStore p.table.reserved (meaning_in (state_of p)) ∥₁
-
 -- ---- a store's fields in memory
 
 abbrev pub paged_by : Lists → List Bool → Marked → List Draft → Paged
@@ -237,11 +159,3 @@ paged_by pages present marks drafts = record {
   looked = marks_of marks;
   drafts = λ k. drafted_in (slice_get drafts k);
 }
-
--- there is a draft, and a row of marks, for each segment, and a granule for each address below half of the limit
-pub record IsPaged (pages : Lists) (present : List Bool) (marks : Marked) (drafts : List Draft) : Type 0 where
-  pub count : length drafts ≡ (table_of pages).segments
-  pub rows : segments marks ≡ (table_of pages).segments
-  pub addresses : granules marks ≡ length present
-  pub bound : limit (table_of pages) ≡ 2 * granules marks
-  pub fine : Fine (paged_by pages present marks drafts)
