@@ -1,20 +1,19 @@
 -- The extents that a record takes when it grows, or is made.
-use Rattle.std.proofs.Common.{◌≡◌, ◌⊎◌, ℕ, zero, suc, ◌+◌, ◌*◌, ◌/◌, ◌%◌, ◌^◌, ◌<◌, ◌≤◌, Bool, true, false, ◌||◌, ◌&&◌, eqb, ltb, List, [], ◌∷◌, ◌++◌, length, refl, sym, ◌∙◌, ap, subst, inl, inr, arith}
+use Rattle.std.proofs.Common.{◌≡◌, ◌⊎◌, ℕ, zero, suc, ◌+◌, ◌*◌, ◌/◌, ◌%◌, ◌^◌, ◌<◌, ◌≤◌, Bool, true, false, ◌||◌, ◌&&◌, eqb, ltb, List, [], ◌∷◌, ◌++◌, refl, sym, ◌∙◌, ap, subst, inl, inr, arith}
 use Rattle.std.proofs.lemmas.Bool.{or_left, or_right, cond-false, ltb-true, cases_lt, lt-leb}
 use Rattle.std.proofs.lemmas.Bool.Decides.{eqb_tells}
 use Rattle.std.proofs.lemmas.List.{append-nil}
 use Rattle.seg_store.specs.declared.store.StoreFault.{StoreFault}
 use Rattle.seg_store.specs.declared.store.StoreFault.TheVariants.{Full, OutOfMemory}
 use Rattle.page_table.specs.Pages.{Table}
-use Rattle.py_data.specs.declared.value.Value.{Value}
 use Rattle.paged_store.specs.declared.extent.Extent.{Extent}
 use Rattle.paged_store.specs.Words.{Words, in_span, size_of, in_head, in_body}
 use Rattle.paged_store.specs.Paged.{in_extents, extents_at, one_if, spare_at}
 use Rattle.paged_store.specs.inner.Ending.{ExtentsLie}
 use Rattle.paged_store.specs.inner.Claiming.{extent_for, newly, Claims, NoneLeft, Denies}
 use Rattle.paged_store.specs.inner.Taking.{Takes}
-use Rattle.paged_store.specs.inner.Growing.{grown_with, grown_class, grown_index, grown_extents, MayGrow, KeepsBody, CanGrow, Grew}
-use Rattle.paged_store.specs.inner.Writing.{Desk, Readied, CanPut, with_words, next_body_size, next_index_size}
+use Rattle.paged_store.specs.inner.Growing.{grown_class, grown_index, grown_extents, MayGrow, KeepsBody, CanGrow}
+use Rattle.paged_store.specs.inner.Writing.{Desk, Readied, CanPut, next_body_size, next_index_size}
 use Rattle.paged_store.proofs.SpanLemmas.{none_in_span}
 use Rattle.paged_store.proofs.PartLemmas.{false_from}
 use Rattle.paged_store.proofs.RecordWords.{size_of_zero, size_of_next}
@@ -195,17 +194,3 @@ module _ (k a n body index : ℕ) (old ready taken : Desk) (g : MayGrow (old.tab
             (let r = g.room in omega (arith, r, some)) t.claims.lie;
         apart = subst S same_words apart;
       }
-
-  pub grew : (vs : List Value) → length vs ≡ n → (new : Desk)
-      → new ≡ record taken { table = with_words k (grown_with (taken.table.word k) a body index vs) taken.table } →
-      Grew k a vs old new
-  grew vs e new h = record {
-    body = body;
-    index = index;
-    ready = ready;
-    taken = taken;
-    readied = r;
-    takes = t;
-    can = subst (λ m. CanGrow k a body index m taken.table) (sym e) can_grow;
-    puts = h;
-  }

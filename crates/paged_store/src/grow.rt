@@ -1,11 +1,11 @@
 //! A record that grows: its body, and a Dict's index, stand in larger extents.
-ghost use Rattle.std.specs.Prelude.{◌≡◌, ◌+◌, ◌*◌, ◌<◌, ◌≤◌, [], ◌∷◌, length, IfErr, OnOk, OnErr};
+ghost use Rattle.std.specs.Prelude.{◌≡◌, ◌+◌, ◌*◌, ◌<◌, ◌≤◌, [], ◌∷◌, length, IfOk, IfErr, OnOk, OnErr};
 ghost use Rattle.page_table.specs.Pages.{limit};
 ghost use Rattle.page_table.specs.Lists.{table_of};
 ghost use Rattle.seg_store.specs.Extents.{words_in};
 ghost use Rattle.paged_store.specs.Words.{size_of, count_by, body_by, body_size};
 ghost use Rattle.paged_store.specs.inner.Claiming.{Denies, RisesBy};
-ghost use Rattle.paged_store.specs.inner.Growing.{grown_with, grown_class, grown_index, MayGrow, KeepsBody, CanGrow, Grew, Ungrown};
+ghost use Rattle.paged_store.specs.inner.Growing.{grown_with, grown_class, grown_index, MayGrow, KeepsBody, CanGrow, GrowsInto, Grew, Ungrown};
 ghost use Rattle.paged_store.specs.inner.Sight.{Stands};
 ghost use Rattle.paged_store.specs.inner.Written.{next_index};
 ghost use Rattle.paged_store.specs.inner.Writing.{desk, with_words};
@@ -97,18 +97,13 @@ fn write_grown(pages: &mut Pages, k: u8, a: u32, body: u32, index: u32, vs: &[Va
     pages.write_word(k, 2 * a + 1, u64::from(words / 2) + vs.len() as u64);
 }
 
-/// A record grows, and has so many values at its end besides. What can fail comes first.
-fn try_grow(
-    pages: &mut Pages,
-    draft: &mut Draft,
-    k: u8,
-    a: u32,
-    vs: &[Value],
-) -> Result<(), StoreFault>
+/// Makes the header of a record that grows ready, and takes the extents that it then has, for which it answers the
+/// places: of its body, and of a Dict's index. Or it takes none.
+fn take_grown(pages: &mut Pages, draft: &mut Draft, k: u8, a: u32) -> Result<(u32, u32), StoreFault>
     requires segment { k < (table_of pages.old).segments }
-    requires grows { MayGrow ((table_of pages.old).word k) (table_of pages.old).reserved a (length vs.now) }
+    requires grows { MayGrow ((table_of pages.old).word k) (table_of pages.old).reserved a 0 }
     requires keeps { KeepsBody (table_of pages.old) ((table_of pages.old).word k) a }
-    ensures ok { OnOk result (Grew k a vs.now (desk pages.old draft.old) (desk pages.new draft.new)) }
+    ensures ok { IfOk result (λ at. GrowsInto k a at.0 at.1 (desk pages.old draft.old) (desk pages.new draft.new)) }
     ensures err { OnErr result (Ungrown k a (desk pages.old draft.old) (desk pages.new draft.new)) }
     ensures cause { IfErr result (let w = (table_of pages.old).word k in
         Denies (grown_class w a ∷ grown_index w a ∷ 0 ∷ []) (table_of pages.old) (table_of pages.new)) }
@@ -119,8 +114,7 @@ fn try_grow(
     let next = Header::of(pages.word(k, 2 * a)).next();
     ready(pages, draft, k, 2 * a, 4)?;
     let (body, index, _) = take(pages, draft, k, next.class, next.index, 0)?;
-    write_grown(pages, k, a, body, index, vs);
-    Ok(())
+    Ok((body, index))
 }
 
 /// A record grows, and has so many values at its end besides; or no word changes, and no extent is taken.
@@ -143,8 +137,9 @@ pub(crate) fn grow(
     ensures most { (table_of pages.new).reserved ≤ limit (table_of pages.new) }
     ensures filled { (table_of pages.new).reserved ≡ 2 + words_in (λ c. ((table_of pages.new).shelf c).total) }
 {
-    match try_grow(pages, draft, k, a, vs) {
-        Ok(()) => {
+    match take_grown(pages, draft, k, a) {
+        Ok((body, index)) => {
+            write_grown(pages, k, a, body, index, vs);
             pages.known();
             Ok(())
         }

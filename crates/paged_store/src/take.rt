@@ -31,8 +31,8 @@ fn add_extent(taken: &mut Vec<Extent>, class: u8, place: u32)
 /// Adds the extents of three classes. There is room for them.
 fn add_extents(taken: &mut Vec<Extent>, first: (u8, u32), second: (u8, u32), third: (u8, u32))
     requires { length taken.old.items + 3 ≤ vec_capacity taken.old }
-    ensures { taken.new.items
-        ≡ taken.old.items ++ (extent_for first.0 first.1 ++ extent_for second.0 second.1 ++ extent_for third.0 third.1) }
+    ensures { taken.new.items ≡ taken.old.items
+        ++ (extent_for first.0 first.1 ++ extent_for second.0 second.1 ++ extent_for third.0 third.1) }
 {
     add_extent(taken, first.0, first.1);
     add_extent(taken, second.0, second.1);

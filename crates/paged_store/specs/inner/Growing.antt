@@ -49,6 +49,14 @@ pub record CanGrow (k a body index n : ℕ) (t : Table) : Type 0 where
   pub even : 0 < n → body % 2 ≡ 0
   pub apart : (p : ℕ) → in_span body (next_body_size (t.word k) a) p ≡ true → in_body (t.word k) a p ≡ false
 
+-- Its header is ready and its extents are taken, so that it can grow into these places, and have as many values more
+-- as it may.
+pub record GrowsInto (k a body index : ℕ) (old new : Desk) : Type 0 where
+  pub ready : Desk
+  pub readied : Readied k (in_head a) old ready
+  pub takes : Takes k (grown_extents (old.table.word k) a body index) ready new
+  pub can : (n : ℕ) → MayGrow (old.table.word k) old.table.reserved a n → CanGrow k a body index n new.table
+
 -- the record has grown, with these values at its end
 pub record Grew (k a : ℕ) (vs : List Value) (old new : Desk) : Type 0 where
   pub body : ℕ
