@@ -1,5 +1,5 @@
 -- The pages of a segment's own, and the words over the shared ones, as they change.
-use Rattle.std.proofs.Common.{◌≡◌, ℕ, ◌+◌, ◌-◌, ◌*◌, ◌/◌, ◌%◌, ◌<◌, ◌≤◌, ◌++◌, true, false, List, [], ◌∷◌, length, get_or, set, zero, suc, Option, Some, None, is_some, refl, sym, ◌∙◌, ap, inl, inr, ◌⊎◌, arith}
+use Rattle.std.proofs.Common.{◌≡◌, ℕ, ◌+◌, ◌-◌, ◌*◌, ◌/◌, ◌%◌, ◌<◌, ◌≤◌, ◌++◌, true, false, List, [], ◌∷◌, length, get_or, set, zero, suc, Option, Some, None, is_some, refl, sym, ◌∙◌, ap, subst, inl, inr, ◌⊎◌, arith}
 use Rattle.std.proofs.lemmas.List.{get_or-set_same, get_or-set_other, get_or_default, get_or_past}
 use Rattle.std.proofs.lemmas.Bool.Decides.{eqb_tells, leb_tells}
 use Rattle.std.proofs.lemmas.Option.{get_or_from_slice_get, unwrap_or-slice_get}
@@ -34,7 +34,7 @@ pub read_page : (pages : List (Option (List ℕ))) (q : ℕ) (x : Option (List �
 unfolding sheet_in
 read_page pages q x within read = get_or_default pages q None x within ∙ sym read
 
-pub has_within : (pages : List (Option (List ℕ))) (q : ℕ) → has_page (sheet_in pages) q ≡ true → q < length pages
+has_within : (pages : List (Option (List ℕ))) (q : ℕ) → has_page (sheet_in pages) q ≡ true → q < length pages
 unfolding sheet_in has_page
 has_within pages q has = elim (leb_tells (suc q) (length pages)) [
   | inl a ↦ omega (arith, a.1)
@@ -45,12 +45,6 @@ has_within pages q has = elim (leb_tells (suc q) (length pages)) [
 pub has_no_none : (sheet : Sheet) (q : ℕ) → sheet q ≡ None → has_page sheet q ≡ true → ⊥
 unfolding has_page
 has_no_none sheet q e has = let k : false ≡ true = sym (ap is_some e) ∙ has in cc
-
--- a page of a segment's own is there, by a read of it
-pub page_there : (pages : List (Option (List ℕ))) (q : ℕ) (x : Option (List ℕ)) → has_page (sheet_in pages) q ≡ true
-    → x ≡ get_or pages q x → x ≡ None → ⊥
-page_there pages q x has read none =
-    has_no_none (sheet_in pages) q (read_page pages q x (has_within pages q has) read ∙ none) has
 
 pub lacks_page : (sheet : Sheet) (q : ℕ) → has_page sheet q ≡ false → sheet q ≡ None
 unfolding has_page
@@ -76,19 +70,32 @@ own_changed sheet q old page was =
     same_at_all _ _ (λ r. elim (eqb_tells r q) [ inl h ↦ rw (h.0, h.1, was) refl | inr h ↦ rw h.0 refl ])
 
 -- a page of a segment's own that is another now, from a read of it
-pub record PageChanged (pages : List (Option (List ℕ))) (q : ℕ) (old page : List ℕ) : Type 0 where
-  pub was : sheet_in pages q ≡ Some old
-  pub sheet : sheet_in (set pages q (Some page)) ≡ put q (Some page) (sheet_in pages)
-  pub own : has_page (sheet_in (set pages q (Some page))) ≡ has_page (sheet_in pages)
+pub record PageChanged (view pages : List (Option (List ℕ))) (q : ℕ) (old page : List ℕ) : Type 0 where
+  pub was : sheet_in view q ≡ Some old
+  pub sheet : sheet_in (set pages q (Some page)) ≡ put q (Some page) (sheet_in view)
+  pub own : has_page (sheet_in (set pages q (Some page))) ≡ has_page (sheet_in view)
 
-pub page_changed : (pages : List (Option (List ℕ))) (q : ℕ) (x : Option (List ℕ)) (old page : List ℕ)
-    → has_page (sheet_in pages) q ≡ true → x ≡ get_or pages q x → x ≡ Some old → PageChanged pages q old page
-page_changed pages q x old page has read is =
-    let within = has_within pages q has in
-    let was : sheet_in pages q ≡ Some old = read_page pages q x within read ∙ is in
-    let sheet : sheet_in (set pages q (Some page)) ≡ put q (Some page) (sheet_in pages) =
-    sheet_in_set pages q (Some page) within in
-    record { was = was; sheet = sheet; own = ap has_page sheet ∙ own_changed (sheet_in pages) q old page was }
+-- of pages that are seen as a list, one of a segment's own: it is there by a read, and may be changed
+module _ (view pages : List (Option (List ℕ))) (q : ℕ) (same : pages ≡ view) (has : has_page (sheet_in view) q ≡ true)
+  where
+    has_here : has_page (sheet_in pages) q ≡ true
+    has_here = subst (λ v. has_page (sheet_in v) q ≡ true) (sym same) has
+
+    pub own_within : q < length pages
+    own_within = has_within pages q has_here
+
+    pub own_there : (x : Option (List ℕ)) → x ≡ get_or pages q x → x ≡ None → ⊥
+    own_there x read none =
+        has_no_none (sheet_in pages) q (read_page pages q x own_within read ∙ none) has_here
+
+    pub own_written : (x : Option (List ℕ)) (old page : List ℕ) → x ≡ get_or pages q x → x ≡ Some old →
+        PageChanged view pages q old page
+    own_written x old page read is =
+        let was : sheet_in pages q ≡ Some old = read_page pages q x own_within read ∙ is in
+        let sheet : sheet_in (set pages q (Some page)) ≡ put q (Some page) (sheet_in pages) =
+        sheet_in_set pages q (Some page) own_within in
+        subst (λ v. PageChanged v pages q old page) same
+        (record { was = was; sheet = sheet; own = ap has_page sheet ∙ own_changed (sheet_in pages) q old page was })
 
 -- the word at a place that is in page q, and at one that isn't
 pub word_of_page : (sheet : Sheet) (below : ℕ → ℕ) (p : ℕ) (o : Option (List ℕ)) → sheet (p / 512) ≡ o
