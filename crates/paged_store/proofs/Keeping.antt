@@ -3,20 +3,17 @@ use Rattle.std.proofs.Common.{◌≡◌, ◌≢◌, ℕ, ◌≤◌, Bool, true, 
 use Rattle.std.proofs.lemmas.Bool.{cases_Bool, both_ways, false_from_ne_true, or_cases, or_left, or_right, cond-true, cond-false}
 use Rattle.std.proofs.lemmas.Bool.Decides.{eqb_tells}
 use Rattle.std.proofs.lemmas.List.{append-nil, append_assoc}
-use Rattle.py_base.specs.declared.kind.Kind.{Kind}
-use Rattle.py_base.specs.declared.kind.Kind.TheVariants.{Str, Tuple, List as ListKind, Dict, Cell, Function, Class, Instance, Method, Iter, Range, Lock, Thread}
 use Rattle.py_data.specs.declared.change.Change.{Change}
-use Rattle.py_data.specs.declared.change.Change.TheVariants.{Set, Push, Cut, Pair, Unpair}
-use Rattle.py_data.specs.declared.value.Value.{Value}
 use Rattle.py_data.specs.Changes.{after, Allows, Suits, IsShort}
-use Rattle.py_data.specs.Heap.{Rec, Heap, Marks, Has, at, put_at, is_tracked}
+use Rattle.py_data.specs.Heap.{Rec, Heap, Marks, Has, at, put_at}
 use Rattle.py_data.specs.Sense.{IfThere}
 use Rattle.py_data.specs.Sight.{mem, no_marks, with_mark}
 use Rattle.py_data.proofs.Grow.{for_tracked, mem_append}
 use Rattle.py_data.proofs.Short.{short_after}
 use Rattle.seg_store.specs.Meaning.{Part, Meaning, over, sees, holds, with_part}
 use Rattle.seg_store.specs.Calls.{begun, marked, first_locked, changed, made, opened, undone, ended, after_begin, after_mark, after_lock, after_change, after_make, after_open, after_undo, after_publish, after_drop}
-use Rattle.seg_store.specs.Store.{CanChange, NoOther, IsFree, OneList, IsStored, AreStored, IsStore}
+use Rattle.seg_store.specs.Store.{CanChange, NoOther, IsFree, NoneOf, IsStored, AreStored, IsStore}
+use Rattle.seg_store.proofs.OneLists.{one_after}
 use Rattle.seg_store.proofs.Parts.{each_part}
 use Rattle.seg_store.proofs.Sees.{mem_last, at_some}
 use Rattle.paged_store.proofs.MemLemmas.{one_more, locked_more, made_more}
@@ -198,31 +195,7 @@ changed_part image p a r w s h = record {
 stored_after : (c : Change) (r : Rec) → Allows c r → IsStored r → IsStored (after c r)
 stored_after c r k s =
     let l : IsShort (after c r) = short_after c r k (s.values, s.bytes) in
-    record { values = l.0; bytes = l.1; one = one_after c r (for_tracked c r.kind k.0) s.one }
-  where
-    one_tracked : (k : Kind) (vs ws : List Value) (bs : List ℕ) → is_tracked k ≡ true → OneList k vs bs
-        → OneList k ws bs
-    one_tracked Str vs ws bs t o = absurd (cc)
-    one_tracked Tuple vs ws bs t o = o
-    one_tracked ListKind vs ws bs t o = o
-    one_tracked Dict vs ws bs t o = o
-    one_tracked Cell vs ws bs t o = o
-    one_tracked Function vs ws bs t o = o
-    one_tracked Class vs ws bs t o = o
-    one_tracked Instance vs ws bs t o = o
-    one_tracked Method vs ws bs t o = o
-    one_tracked Iter vs ws bs t o = o
-    one_tracked Range vs ws bs t o = o
-    one_tracked Lock vs ws bs t o = o
-    one_tracked Thread vs ws bs t o = o
-
-    one_after : (c : Change) (q : Rec) → is_tracked q.kind ≡ true → OneList q.kind q.values q.bytes
-        → OneList (after c q).kind (after c q).values (after c q).bytes
-    one_after (Set i x) q t o = one_tracked q.kind q.values _ q.bytes t o
-    one_after (Push x) q t o = one_tracked q.kind q.values _ q.bytes t o
-    one_after (Cut n) q t o = one_tracked q.kind q.values _ q.bytes t o
-    one_after (Pair key x) q t o = one_tracked q.kind q.values _ q.bytes t o
-    one_after (Unpair n) q t o = one_tracked q.kind q.values _ q.bytes t o
+    record { values = l.0; bytes = l.1; one = one_after NoneOf (λ vs ws bs o. o) c r (for_tracked c r.kind k.0) s.one }
 
 -- ---- what a segment sees
 

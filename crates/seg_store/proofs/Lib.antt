@@ -4,6 +4,7 @@ mod Wanting
 mod Back
 mod Flagging
 mod Moving
+pub mod OneLists
 mod Goodness
 mod HoldingLemmas
 pub mod Parts
