@@ -1,5 +1,5 @@
-use Rattle.std.proofs.Common.{◌≡◌, ◌+◌, ◌*◌, ◌≤◌, length, max}
-use Rattle.py_tree.specs.Tall.{tall, talls, tall_arm, tall_arms, tall_block, tall_clause, tall_handler, tall_handlers}
+use Rattle.std.proofs.Common.{◌≡◌, ◌+◌, ◌*◌, ◌≤◌, length}
+use Rattle.py_tree.specs.Tall.{tall, talls, tall_arm, tall_arms, tall_clause, tall_handler, tall_handlers}
 use Rattle.py_compile.specs.inner.Tallies.{arms_uses, block_uses, done, handlers_uses, inside}
 use Rattle.py_compile.proofs.body_uses.+statements.Given as goal
 
@@ -26,25 +26,6 @@ decreases-handlers-items l = length l.rest
 
 abbrev pub decreases-statement : goal.decreases-statement
 decreases-statement l = 8 * tall l.x.now
-
-abbrev pub decreases-branches : goal.decreases-branches
-decreases-branches l = 8 * max (tall_arms l.items.now) (tall_clause l.otherwise.now) + 5
-
-abbrev pub decreases-while_loop : goal.decreases-while_loop
-decreases-while_loop l = 8 * max (tall_arm l.x.now) (tall_clause l.otherwise.now) + 5
-
-abbrev pub decreases-for_loop : goal.decreases-for_loop
-decreases-for_loop l = 8 * max (tall_block l.body.now) (tall_clause l.otherwise.now) + 5
-
-abbrev pub decreases-guarded : goal.decreases-guarded
-decreases-guarded l = 8 * max (max (tall_block l.x.now.body) (tall_handlers l.items.now))
-    (max (tall_clause l.otherwise.now) (tall_clause l.last.now)) + 5
-
-abbrev pub decreases-function : goal.decreases-function
-decreases-function l = 8 * talls l.body.now + 5
-
-abbrev pub decreases-class : goal.decreases-class
-decreases-class l = 8 * talls l.body.now + 5
 
 abbrev pub decreases-block : goal.decreases-block
 decreases-block l = 8 * talls l.items.now + 2
