@@ -1,5 +1,5 @@
 -- What holds of bodies one after another, each with its number: of the front, of the rest, of two lists joined.
-use Rattle.std.proofs.Common.{◌≡◌, ℕ, ◌+◌, List, [], ◌∷◌, ◌++◌, subst, arith, length}
+use Rattle.std.proofs.Common.{◌≡◌, ℕ, ◌+◌, List, [], ◌∷◌, ◌++◌, subst, arith, length, refl}
 use Rattle.py_compile.specs.Statements.{Body}
 
 module _ (P : ℕ → Body → Type 0) where
