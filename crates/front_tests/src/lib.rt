@@ -5,8 +5,6 @@
 #[cfg(test)]
 mod code_rows;
 #[cfg(test)]
-mod joined_texts;
-#[cfg(test)]
 mod listing_rows;
 #[cfg(test)]
 mod literal_rows;
