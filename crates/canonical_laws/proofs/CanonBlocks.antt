@@ -22,11 +22,11 @@ use Rattle.py_tree.specs.Canonical as C
 use Rattle.py_tree.proofs.Pieces as pl
 use Rattle.py_tree.proofs.Pieces.{lexemes_arm, lexemes_arms, lexemes_clause, lexemes_clause_or, lexemes_handler, lexemes_handlers}
 use Rattle.py_tree.proofs.Lined.{lined_kind, IsLined, lined_after}
-use Rattle.py_parser.specs.Codes as c
-use Rattle.py_parser.specs.Words.{line_of}
-use Rattle.py_parser.specs.Grammar.{Is, Exprs}
-use Rattle.py_parser.specs.Statements as S
-use Rattle.py_parser.specs.Statements.{Loops, Params, Base, Caught, Simple, Line, Statement, Suite, Block, Elifs, Else, Finally, Excepts, Compound, Body, IsModule}
+use Rattle.py_grammar.specs.Codes as c
+use Rattle.py_grammar.specs.Words.{line_of}
+use Rattle.py_grammar.specs.Grammar.{Is, Exprs}
+use Rattle.py_grammar.specs.Statements as S
+use Rattle.py_grammar.specs.Statements.{Loops, Params, Base, Caught, Simple, Line, Statement, Suite, Block, Elifs, Else, Finally, Excepts, Compound, Body, IsModule}
 use Rattle.canonical_laws.proofs.CanonWords.{Spells, First, first, begins, Enclosed, enclosed, encloses, Parted, parted, parts, Nothing, nothing}
 use Rattle.canonical_laws.proofs.CanonExpr.{Again, as_is, as_exprs}
 use Rattle.canonical_laws.proofs.CanonReads.{Reads, reads, Split, split, splits, none as no_more, only, Worded, worded}

@@ -20,10 +20,10 @@ use Rattle.py_tree.specs.declared.expr.Sign.TheVariants as sign
 use Rattle.py_tree.specs.Spelling.{Words, operator_words, sign_words, led, commas, all_words, tuple_words, words, words_trailer, words_link, words_named, words_pair}
 use Rattle.py_tree.specs.Canonical.{expr_or}
 use Rattle.py_tree.proofs.Spellings as sp
-use Rattle.py_parser.specs.Codes as c
-use Rattle.py_parser.specs.Words.{below, level_of, spelled, sign_word}
-use Rattle.py_parser.specs.Grammar as G
-use Rattle.py_parser.specs.Grammar.{Marks, Is, Strings, Tests, Commas, Exprs, Pairs, Links, Trailers, Trails, Maybe, Args}
+use Rattle.py_grammar.specs.Codes as c
+use Rattle.py_grammar.specs.Words.{below, level_of, spelled, sign_word}
+use Rattle.py_grammar.specs.Grammar as G
+use Rattle.py_grammar.specs.Grammar.{Marks, Is, Strings, Tests, Commas, Exprs, Pairs, Links, Trailers, Trails, Maybe, Args}
 use Rattle.canonical_laws.proofs.CanonWords.{Spells, by, First, first, begins, Cut, cut, cuts, One, one, alone, Two, two, both, Closed, closed, closes, Enclosed, enclosed, encloses, Parted, parted, parts, bare}
 
 -- what spells these words is of this kind

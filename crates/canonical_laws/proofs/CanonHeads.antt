@@ -16,11 +16,11 @@ use Rattle.py_tree.specs.Spelling.{Words, led, commas, tuple_words, words}
 use Rattle.py_tree.specs.Canonical.{on, pieces, block_lexemes, expr_or, led_or, param_words, base_words, head}
 use Rattle.py_tree.proofs.Forms.{form_tuple}
 use Rattle.py_tree.proofs.Spellings as sp
-use Rattle.py_parser.specs.Codes as c
-use Rattle.py_parser.specs.Grammar as G
-use Rattle.py_parser.specs.Grammar.{Is, Tests, Commas}
-use Rattle.py_parser.specs.Statements as S
-use Rattle.py_parser.specs.Statements.{Target, Targets, Loops, Parameter, Later, Parameters, Params, Base, Caught, Block}
+use Rattle.py_grammar.specs.Codes as c
+use Rattle.py_grammar.specs.Grammar as G
+use Rattle.py_grammar.specs.Grammar.{Is, Tests, Commas}
+use Rattle.py_grammar.specs.Statements as S
+use Rattle.py_grammar.specs.Statements.{Target, Targets, Loops, Parameter, Later, Parameters, Params, Base, Caught, Block}
 use Rattle.canonical_laws.proofs.CanonWords.{Spells, by, First, first, begins, Closed, closed, closes, Enclosed, enclosed, encloses, Parted, parted, parts, bare, Nothing, nothing, ends, One, one, alone}
 use Rattle.canonical_laws.proofs.CanonExpr.{Again, as_is, as_maybe, round_of, lone_of, several_of, more_tests_of}
 use Rattle.canonical_laws.proofs.CanonReads.{Reads, Split, split, splits, Leads, leads, led_by, on_line}

@@ -7,7 +7,7 @@ use Rattle.py_tree.specs.Canonical.{lexemes, module_text}
 use Rattle.py_tree.proofs.LinedKinds.{Bytes}
 use Rattle.py_tree.proofs.LinedText.{lined_text}
 use Rattle.py_tree.proofs.WrittenText.{reads_again}
-use Rattle.py_parser.specs.Statements.{IsModule}
+use Rattle.py_grammar.specs.Statements.{IsModule}
 use Rattle.canonical_laws.proofs.CanonBlocks.{canonical}
 use Rattle.canonical_laws.proofs.LinedBlocks.{lexemes_laid}
 

@@ -7,7 +7,7 @@ use Rattle.py_tokens.specs.Place.{token_at as at, place}
 use Rattle.py_tree.specs.Lexeme.{Lexeme, lexeme, lexeme_of, line_kept}
 use Rattle.py_tree.specs.Spelling.{Words}
 use Rattle.py_tree.specs.Canonical.{on}
-use Rattle.py_parser.specs.Words.{line_of}
+use Rattle.py_grammar.specs.Words.{line_of}
 use Rattle.canonical_laws.proofs.CanonWords.{Spells, Nothing, nothing}
 
 pub data Reads : List Lexeme → List Token → Type 0 where

@@ -18,12 +18,12 @@ use Rattle.py_tree.specs.Spelling.{Words, led, commas, words}
 use Rattle.py_tree.specs.Canonical.{Piece, piece, all, ended, assigning, trailing, name_words, bound_words, imported_words}
 use Rattle.py_tree.specs.Canonical as C
 use Rattle.py_tree.proofs.Pieces as pl
-use Rattle.py_parser.specs.Codes as c
-use Rattle.py_parser.specs.Words.{line_of, sign_word, augment_word, is_module, is_member}
-use Rattle.py_parser.specs.Grammar as G
-use Rattle.py_parser.specs.Grammar.{Is, Strings, Tests, Commas, Exprs}
-use Rattle.py_parser.specs.Statements as S
-use Rattle.py_parser.specs.Statements.{Target, Targets, Equals, Names, Renamed, Imports, Simple}
+use Rattle.py_grammar.specs.Codes as c
+use Rattle.py_grammar.specs.Words.{line_of, sign_word, augment_word, is_module, is_member}
+use Rattle.py_grammar.specs.Grammar as G
+use Rattle.py_grammar.specs.Grammar.{Is, Strings, Tests, Commas, Exprs}
+use Rattle.py_grammar.specs.Statements as S
+use Rattle.py_grammar.specs.Statements.{Target, Targets, Equals, Names, Renamed, Imports, Simple}
 use Rattle.canonical_laws.proofs.CanonWords.{Spells, by, First, first, begins, One, one, alone, Two, two, both, Closed, closed, closes, Parted, parted, parts, bare, Nothing, nothing, ends}
 use Rattle.canonical_laws.proofs.CanonExpr.{Again, as_is, as_exprs, as_tests}
 use Rattle.canonical_laws.proofs.CanonReads.{BeginsOn, OnLine, Worded, worded, line_is, worded_more, line_front, begins_front}

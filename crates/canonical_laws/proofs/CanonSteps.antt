@@ -10,9 +10,9 @@ use Rattle.py_tree.specs.Lexeme.{Lexeme, lexeme}
 use Rattle.py_tree.specs.Spelling.{Words}
 use Rattle.py_tree.specs.Canonical.{on, newline, Piece, ending, in_order, begins_on, block_lexemes}
 use Rattle.py_tree.specs.Canonical as C
-use Rattle.py_parser.specs.Codes as c
-use Rattle.py_parser.specs.Statements as S
-use Rattle.py_parser.specs.Statements.{Simple, Line, Statement, Suite, Block, Compound, Body}
+use Rattle.py_grammar.specs.Codes as c
+use Rattle.py_grammar.specs.Statements as S
+use Rattle.py_grammar.specs.Statements.{Simple, Line, Statement, Suite, Block, Compound, Body}
 use Rattle.canonical_laws.proofs.CanonWords.{One, one, Nothing, nothing}
 use Rattle.canonical_laws.proofs.CanonReads.{Reads, alike, Split, split, splits, none as no_more, only, Leads, leads, led_by, OnLine, on_line}
 

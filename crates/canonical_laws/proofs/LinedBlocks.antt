@@ -22,11 +22,11 @@ use Rattle.py_tree.specs.Canonical as n
 use Rattle.py_tree.specs.Canonical.{Piece, piece, pieces, on, newline, ending, in_order, begins_on, block_lexemes, head, expr_or, led_or, param_words, base_words, lexemes}
 use Rattle.py_tree.proofs.Pieces.{lexemes_arms, lexemes_clause_or, lexemes_handlers, piece_if, piece_while, piece_for, piece_try, piece_def, piece_class}
 use Rattle.py_tokens.specs.Place.{token_at as at}
-use Rattle.py_parser.specs.Codes as code
-use Rattle.py_parser.specs.Words.{line_of}
-use Rattle.py_parser.specs.Statements as S
-use Rattle.py_parser.specs.Statements.{Line, Parameter, Parameters, Params, Base, Caught, Statement, Suite, Block, Elifs, Else, Finally, Excepts, Compound, Body, IsModule}
-use Rattle.py_parser.specs.Grammar.{Marks}
+use Rattle.py_grammar.specs.Codes as code
+use Rattle.py_grammar.specs.Words.{line_of}
+use Rattle.py_grammar.specs.Statements as S
+use Rattle.py_grammar.specs.Statements.{Line, Parameter, Parameters, Params, Base, Caught, Statement, Suite, Block, Elifs, Else, Finally, Excepts, Compound, Body, IsModule}
+use Rattle.py_grammar.specs.Grammar.{Marks}
 use Rattle.py_tree.proofs.Lined.{IsLined, AllKept, lined_le, lined_tail, lined_after, kept_front, kept_after}
 use Rattle.py_tree.proofs.LinedKinds.{Bytes}
 use Rattle.py_tree.proofs.LinedText.{lined_text, kept_text}

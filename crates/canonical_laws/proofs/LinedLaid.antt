@@ -12,10 +12,10 @@ use Rattle.py_tree.specs.inner.Laid.Stand.{Start, Indented, Dedented, Within}
 use Rattle.py_tree.specs.Spelling.{Words}
 use Rattle.py_tree.specs.Canonical as n
 use Rattle.py_tree.specs.Canonical.{Piece, piece, pieces, on, newline, ending, in_order, begins_on, block_lexemes, head}
-use Rattle.py_parser.specs.Words.{line_of}
-use Rattle.py_parser.specs.Statements as S
-use Rattle.py_parser.specs.Statements.{Line}
-use Rattle.py_parser.specs.Grammar.{Marks}
+use Rattle.py_grammar.specs.Words.{line_of}
+use Rattle.py_grammar.specs.Statements as S
+use Rattle.py_grammar.specs.Statements.{Line}
+use Rattle.py_grammar.specs.Grammar.{Marks}
 use Rattle.py_tree.proofs.Lined.{IsLined, AllKept, kept_front, kept_after}
 use Rattle.canonical_laws.proofs.LinedWords.{AllWords, after_words, is_some, Phrase, even_nil, even_cons, phrase2}
 use Rattle.canonical_laws.proofs.LinedSimple.{Starts, starts_append, line_append, lined_start, starts_Simple, IsSimple, simple_is}

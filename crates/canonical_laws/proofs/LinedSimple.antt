@@ -20,11 +20,11 @@ use Rattle.py_tree.specs.Canonical as n
 use Rattle.py_tree.specs.Canonical.{Piece, piece, ended, expr_or, led_or, assigning, trailing, name_words, bound_words, imported_words}
 use Rattle.py_tree.proofs.Spellings.{words_tuple}
 use Rattle.py_tree.proofs.Pieces.{piece_do, piece_assign, piece_augment, piece_print, piece_pass, piece_break, piece_continue, piece_return, piece_raise, piece_del, piece_global, piece_assert, piece_import, piece_from}
-use Rattle.py_parser.specs.Words.{line_of, sign_word}
-use Rattle.py_parser.specs.Grammar as G
-use Rattle.py_parser.specs.Grammar.{Marks, Is, Strings, Exprs, Commas}
-use Rattle.py_parser.specs.Statements as S
-use Rattle.py_parser.specs.Statements.{Target, Targets, Loops, Equals, Names, Renamed, Imports, Simple}
+use Rattle.py_grammar.specs.Words.{line_of, sign_word}
+use Rattle.py_grammar.specs.Grammar as G
+use Rattle.py_grammar.specs.Grammar.{Marks, Is, Strings, Exprs, Commas}
+use Rattle.py_grammar.specs.Statements as S
+use Rattle.py_grammar.specs.Statements.{Target, Targets, Loops, Equals, Names, Renamed, Imports, Simple}
 use Rattle.py_tree.proofs.Lined.{lined_kind, IsLined, lined_after, AllKept, kept_front, kept_after}
 use Rattle.canonical_laws.proofs.LinedWords.{Even, Phrase, is_some, even_nil, even_cons, even2, phrase_cons, phrase2, phrase_as, phrase_round, Evens, even_commas, even_tuple, phrase_Is, phrase_Exprs, evens_Tests}
 

@@ -22,9 +22,9 @@ use Rattle.py_tree.specs.inner.Laid.{IsWord, after_word}
 use Rattle.py_tree.specs.Spelling.{Words, operator_words, sign_words, led, commas, all_words, round, square, brace, tuple_words, words, words_trailer, words_link, words_named, words_pair}
 use Rattle.py_tree.specs.Canonical.{expr_or}
 use Rattle.py_tree.proofs.Spellings.{words_name, words_int, words_str, words_group, words_tuple, words_list, words_dict, words_trail, words_power, words_unary, words_chain, words_not, words_choice, words_attribute, words_index, words_slice, words_call, words_link_is, words_named_is, words_pair_is}
-use Rattle.py_parser.specs.Words.{spelled}
-use Rattle.py_parser.specs.Grammar as G
-use Rattle.py_parser.specs.Grammar.{Marks, Is, Strings, Tests, Commas, Exprs, Pairs, Links, Trailers, Trails, Maybe, Args}
+use Rattle.py_grammar.specs.Words.{spelled}
+use Rattle.py_grammar.specs.Grammar as G
+use Rattle.py_grammar.specs.Grammar.{Marks, Is, Strings, Tests, Commas, Exprs, Pairs, Links, Trailers, Trails, Maybe, Args}
 use Rattle.py_tree.proofs.Lined.{AllKept, kept_front, kept_after}
 
 -- ---- words

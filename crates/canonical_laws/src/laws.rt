@@ -4,7 +4,7 @@ ghost use Rattle.py_tokens.specs.Layout.{tokens_of_text};
 ghost use Rattle.py_tokens.specs.declared.token.Token.{Token};
 ghost use Rattle.py_tree.specs.Canonical.{module_text};
 ghost use Rattle.py_tree.specs.declared.stmt.Module.{Module};
-ghost use Rattle.py_parser.specs.Statements.{IsModule};
+ghost use Rattle.py_grammar.specs.Statements.{IsModule};
 
 /// The canonical text of a module that is the tree of some text has tokens, and these have this module again.
 pub fn canonical_law()

@@ -12,10 +12,10 @@ use Rattle.py_tree.specs.declared.stmt.Arm.{Arm}
 use Rattle.py_tree.specs.declared.stmt.Clause.{Clause}
 use Rattle.py_tree.specs.declared.stmt.Handler.{Handler}
 use Rattle.py_tree.specs.declared.stmt.Module.{Module}
-use Rattle.py_parser.specs.Words.{line_of}
-use Rattle.py_parser.specs.Grammar.{Marks}
-use Rattle.py_parser.specs.Statements as S
-use Rattle.py_parser.specs.Statements.{slices, Target, Targets, Loops, Equals, Simple, Line, Parameter, Parameters, Params, Base, Caught, Statement, Suite, Block, Elifs, Else, Finally, Excepts, Compound, Body, IsModule}
+use Rattle.py_grammar.specs.Words.{line_of}
+use Rattle.py_grammar.specs.Grammar.{Marks}
+use Rattle.py_grammar.specs.Statements as S
+use Rattle.py_grammar.specs.Statements.{slices, Target, Targets, Loops, Equals, Simple, Line, Parameter, Parameters, Params, Base, Caught, Statement, Suite, Block, Elifs, Else, Finally, Excepts, Compound, Body, IsModule}
 use Rattle.py_tree.proofs.Forms.{form_tuple}
 use Rattle.py_names.specs.declared.event.Event.{Event}
 use Rattle.py_names.specs.declared.event.Event.TheVariants.{Leave}

@@ -6,12 +6,12 @@ use Rattle.py_tokens.specs.Layout.{tokens_of_text}
 use Rattle.py_tree.specs.Canonical.{module_text}
 use Rattle.py_tree.specs.declared.stmt.Module.{Module}
 use Rattle.py_tree.specs.Tall.{tall_module}
-use Rattle.py_parser.specs.declared.fault.Fault.{Fault}
-use Rattle.py_parser.specs.inner.Lines.{module_at}
-use Rattle.py_parser.specs.inner.Reading.{Reads}
-use Rattle.py_parser.specs.Refused.{EndsOnce, RefusedAt}
-use Rattle.py_parser.specs.Statements.{IsModule}
-use Rattle.py_parser.specs.Words.{line_of}
+use Rattle.py_grammar.specs.declared.fault.Fault.{Fault}
+use Rattle.py_grammar.specs.inner.Lines.{module_at}
+use Rattle.py_grammar.specs.inner.Reading.{Reads}
+use Rattle.py_grammar.specs.Refused.{EndsOnce, RefusedAt}
+use Rattle.py_grammar.specs.Statements.{IsModule}
+use Rattle.py_grammar.specs.Words.{line_of}
 use Rattle.front_laws.specs.Trees.{IsTree}
 
 -- ---- of tokens

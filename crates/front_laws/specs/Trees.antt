@@ -4,7 +4,7 @@ use Rattle.py_tokens.specs.declared.token.Token.{Token}
 use Rattle.py_tokens.specs.Layout.{tokens_of_text}
 use Rattle.py_tree.specs.declared.stmt.Module.{Module}
 use Rattle.py_tree.specs.Tall.{tall_module}
-use Rattle.py_parser.specs.Statements.{IsModule}
+use Rattle.py_grammar.specs.Statements.{IsModule}
 
 -- the text's tokens have this tree, of a height of at most 100
 pub record IsTree (text : List ℕ) (tree : Module) : Type 0 where

@@ -13,9 +13,9 @@ ghost use Rattle.py_tree.specs.Form.{form, is_target};
 ghost use Rattle.py_tree.specs.Tall.{tall_module};
 ghost use Rattle.py_tree.specs.declared.expr.Expr.{Expr};
 ghost use Rattle.py_tree.specs.declared.stmt.Module.{Module};
-ghost use Rattle.py_parser.specs.Refused.{EndsOnce, RefusedAt};
-ghost use Rattle.py_parser.specs.Statements.{IsModule};
-ghost use Rattle.py_parser.specs.declared.fault.Fault.{Fault};
+ghost use Rattle.py_grammar.specs.Refused.{EndsOnce, RefusedAt};
+ghost use Rattle.py_grammar.specs.Statements.{IsModule};
+ghost use Rattle.py_grammar.specs.declared.fault.Fault.{Fault};
 ghost use Rattle.front_laws.specs.Fronts.{HasNoFront};
 ghost use Rattle.front_laws.specs.Pieces.{BeginsString, IsNoSpace, Pieces, in_line};
 ghost use Rattle.front_laws.specs.Spells.{Spells};
@@ -23,7 +23,7 @@ ghost use Rattle.front_laws.specs.Targets.{IsTarget};
 ghost use Rattle.front_laws.specs.Trees.{IsTree};
 
 use canonical_laws::canonical_law;
-use py_parser::grammar_law;
+use py_grammar::grammar_law;
 
 /// The tokens of a text, but for those of its layout, are its longest pieces from the front on, up to its end. A text
 /// without tokens has a bad dedent, or its pieces end at a place for a cause of that refusal. Where no front of what

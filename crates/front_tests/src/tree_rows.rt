@@ -1,6 +1,7 @@
 //! Texts with and without a module, by hand from the grammar. In a row `$` is a line end.
 use py_base::{NoMemory, Refusal};
-use py_parser::{ParseError, ends_law, parse};
+use py_grammar::ends_law;
+use py_parser::{ParseError, parse};
 use py_tokens::tokens;
 use py_tree::{Expr, Module, Operator, Stmt};
 use std::alloc::Global;

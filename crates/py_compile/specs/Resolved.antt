@@ -2,7 +2,7 @@
 use Rattle.std.specs.Prelude.{List, Ok}
 use Rattle.py_tokens.specs.declared.token.Token.{Token}
 use Rattle.py_tree.specs.declared.stmt.Module.{Module}
-use Rattle.py_parser.specs.Statements.{IsModule}
+use Rattle.py_grammar.specs.Statements.{IsModule}
 use Rattle.py_names.specs.declared.scope.Scope.{Scope}
 use Rattle.py_names.specs.Resolves.{Resolves}
 

@@ -4,10 +4,10 @@ use Rattle.std.specs.Prelude.{Err}
 use Rattle.py_tokens.specs.declared.token.Token.{Token}
 use Rattle.py_tokens.specs.declared.token.TokenKind.{TokenKind}
 use Rattle.py_tokens.specs.declared.token.TokenKind.TheVariants as k
-use Rattle.py_parser.specs.declared.fault.Fault.TheVariants.{Deep}
-use Rattle.py_parser.specs.inner.Lines.{Suite, statement_by, statement_at, statements_at, line_of_at, line_at}
-use Rattle.py_parser.specs.inner.Aiming.{readers}
-use Rattle.py_parser.specs.inner.Reading.{first}
+use Rattle.py_grammar.specs.declared.fault.Fault.TheVariants.{Deep}
+use Rattle.py_grammar.specs.inner.Lines.{Suite, statement_by, statement_at, statements_at, line_of_at, line_at}
+use Rattle.py_grammar.specs.inner.Aiming.{readers}
+use Rattle.py_grammar.specs.inner.Reading.{first}
 use Rattle.py_parser.specs.inner.Suites.{parts_of, inner_block}
 
 -- without room for a block, what reads blocks is not asked

@@ -2,12 +2,12 @@
 use Rattle.std.proofs.Common.{◌≡◌, ℕ, zero, suc, ◌+◌, ◌-◌, ◌<◌, List, refl, arith}
 use Rattle.py_tokens.specs.declared.token.Token.{Token}
 use Rattle.py_tree.specs.declared.expr.Expr.{Expr}
-use Rattle.py_parser.specs.declared.tall.Tall.{Tall}
+use Rattle.py_grammar.specs.declared.tall.Tall.{Tall}
 use Rattle.py_parser.specs.declared.request.Request.{Request}
 use Rattle.py_parser.specs.declared.request.Request.TheVariants.{Level, After}
 use Rattle.py_parser.specs.inner.Asking.{requested}
 use Rattle.py_parser.specs.inner.Pieces.{too_high}
-use Rattle.py_parser.specs.inner.Reading.{Below, reads, level_at, rung_at, rung_of, after_at, first}
+use Rattle.py_grammar.specs.inner.Reading.{Below, reads, level_at, rung_at, rung_of, after_at, first}
 use Rattle.std.specs.Prelude.{Err}
 
 pub level_up : (under : Below) (g d n : ℕ) (ts : List Token) → 0 < n →

@@ -1,7 +1,2 @@
-pub mod Codes
-pub mod Words
-pub mod Grammar
-pub mod Statements
-pub mod Refused
 pub mod Parses
 pub mod inner

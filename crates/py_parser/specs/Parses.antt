@@ -6,9 +6,9 @@ use Rattle.py_tree.specs.declared.stmt.Module.{Module}
 use Rattle.py_tree.specs.Tall.{tall_module}
 use Rattle.py_parser.specs.declared.error.ParseError.{ParseError}
 use Rattle.py_parser.specs.declared.error.ParseError.TheVariants.{Refused, OutOfMemory}
-use Rattle.py_parser.specs.declared.fault.Fault.{Fault}
-use Rattle.py_parser.specs.Statements.{IsModule}
-use Rattle.py_parser.specs.Refused.{refusal_of, RefusedAt}
+use Rattle.py_grammar.specs.declared.fault.Fault.{Fault}
+use Rattle.py_grammar.specs.Statements.{IsModule}
+use Rattle.py_grammar.specs.Refused.{refusal_of, RefusedAt}
 
 -- the answer is a module of these tokens and of a height of at most 100, or says where and why there is none
 abbrev pub Answers : List Token → Result Module ParseError → Type 0

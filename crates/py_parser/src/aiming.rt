@@ -1,22 +1,22 @@
 //! What is a target, or becomes one by a further trailer.
 ghost use Rattle.std.specs.Prelude.{◌≡◌, ◌+◌, ◌-◌, ◌<◌, ◌≤◌, IfOk};
-ghost use Rattle.py_parser.specs.inner.AimPieces.{AnswersAim, aimed_at};
-ghost use Rattle.py_parser.specs.inner.Aiming.{fine, closing_at, element_at, next_at, elements_at, round_rest, aim_round, list_rest, aim_list, aim_atom, aim_at};
+ghost use Rattle.py_parser.specs.inner.Asking.{AnswersAim};
+ghost use Rattle.py_grammar.specs.inner.Aiming.{fine, closing_at, element_at, next_at, elements_at, round_rest, aim_round, list_rest, aim_list, aim_atom, aim_at, aimed_at};
 ghost use Rattle.py_parser.specs.inner.Outcome.{Gives};
-ghost use Rattle.py_parser.specs.inner.Reading.{reads, first};
-ghost use Rattle.py_parser.specs.inner.Tall.{start};
+ghost use Rattle.py_grammar.specs.inner.Reading.{reads, first};
+ghost use Rattle.py_grammar.specs.inner.Tall.{start};
 ghost use Rattle.py_tokens.specs.declared.token.TokenKind.TheVariants as k;
 
 use crate::cursor::{Read, comes, keyword_next, no_start, op_next, refused, rest, starts};
 use crate::error::ParseError;
 use crate::expression::expression;
-use crate::fault::Fault;
 use crate::growth::{risen, trailed};
 use crate::node;
 use crate::reader::{TARGET, TEST};
 use crate::request::Request;
-use crate::tall::{HEIGHT_LIMIT, Tall, is_target, no_tests, push, start};
+use crate::tall::{HEIGHT_LIMIT, is_target, no_tests, push, start};
 use py_base::{Construct, split};
+use py_grammar::{Fault, Tall};
 use py_tokens::{Token, TokenKind, keyword, operator};
 use py_tree::Expr;
 use sqlite_items::Items;
@@ -72,7 +72,7 @@ impl<F: for<'b> Fn(&'b [Token]) -> Result<(Tall<Expr>, &'b [Token]), ParseError>
     }
 
     /// A test of a height of at most `budget`, or what is a target or becomes one.
-    #[tactic(auto, unfolding(crate::specs::inner::Aiming::element_at))]
+    #[tactic(auto, unfolding(py_grammar::specs::inner::Aiming::element_at))]
     fn element<'a>(&self, budget: usize, tokens: &'a [Token]) -> Read<'a, Tall<Expr>>
         requires calls { F.IsAlwaysCallable self.now.inner }
         requires answers { AnswersAim (F.post self.now.inner) self.now.turns self.now.room }
@@ -90,7 +90,7 @@ impl<F: for<'b> Fn(&'b [Token]) -> Result<(Tall<Expr>, &'b [Token]), ParseError>
     }
 
     /// The test after these.
-    #[tactic(auto, unfolding(crate::specs::inner::Aiming::next_at))]
+    #[tactic(auto, unfolding(py_grammar::specs::inner::Aiming::next_at))]
     fn next<'a>(&self, found: &Tall<Items<Expr>>, tokens: &'a [Token]) -> Read<'a, Tall<Expr>>
         requires calls { F.IsAlwaysCallable self.now.inner }
         requires answers { AnswersAim (F.post self.now.inner) self.now.turns self.now.room }
@@ -110,7 +110,7 @@ impl<F: for<'b> Fn(&'b [Token]) -> Result<(Tall<Expr>, &'b [Token]), ParseError>
     }
 
     /// Further tests after the first, each after a comma, which may also trail.
-    #[tactic(auto, unfolding(crate::specs::inner::Aiming::elements_at))]
+    #[tactic(auto, unfolding(py_grammar::specs::inner::Aiming::elements_at))]
     fn elements<'a>(&self, first: Tall<Expr>, tokens: &'a [Token]) -> Read<'a, Tall<Items<Expr>>>
         requires calls { F.IsAlwaysCallable self.now.inner }
         requires answers { AnswersAim (F.post self.now.inner) self.now.turns self.now.room }
@@ -142,7 +142,7 @@ impl<F: for<'b> Fn(&'b [Token]) -> Result<(Tall<Expr>, &'b [Token]), ParseError>
     }
 
     /// After `(` and a test.
-    #[tactic(auto, unfolding(crate::specs::inner::Aiming::closed_at))]
+    #[tactic(auto, unfolding(py_grammar::specs::inner::Aiming::closed_at))]
     fn round_close<'a>(&self, test: Tall<Expr>, tokens: &'a [Token]) -> Read<'a, Tall<Expr>>
         requires calls { F.IsAlwaysCallable self.now.inner }
         requires answers { AnswersAim (F.post self.now.inner) self.now.turns self.now.room }
@@ -168,7 +168,7 @@ impl<F: for<'b> Fn(&'b [Token]) -> Result<(Tall<Expr>, &'b [Token]), ParseError>
     }
 
     /// After `(`.
-    #[tactic(auto, unfolding(crate::specs::inner::Aiming::aim_round))]
+    #[tactic(auto, unfolding(py_grammar::specs::inner::Aiming::aim_round))]
     fn round<'a>(&self, tokens: &'a [Token]) -> Read<'a, Tall<Expr>>
         requires calls { F.IsAlwaysCallable self.now.inner }
         requires answers { AnswersAim (F.post self.now.inner) self.now.turns self.now.room }
@@ -189,7 +189,7 @@ impl<F: for<'b> Fn(&'b [Token]) -> Result<(Tall<Expr>, &'b [Token]), ParseError>
     }
 
     /// After `[` and a test.
-    #[tactic(auto, unfolding(crate::specs::inner::Aiming::closed_at))]
+    #[tactic(auto, unfolding(py_grammar::specs::inner::Aiming::closed_at))]
     fn list_close<'a>(&self, test: Tall<Expr>, tokens: &'a [Token]) -> Read<'a, Tall<Expr>>
         requires calls { F.IsAlwaysCallable self.now.inner }
         requires answers { AnswersAim (F.post self.now.inner) self.now.turns self.now.room }
@@ -208,7 +208,7 @@ impl<F: for<'b> Fn(&'b [Token]) -> Result<(Tall<Expr>, &'b [Token]), ParseError>
     }
 
     /// After `[`.
-    #[tactic(auto, unfolding(crate::specs::inner::Aiming::aim_list))]
+    #[tactic(auto, unfolding(py_grammar::specs::inner::Aiming::aim_list))]
     fn list<'a>(&self, tokens: &'a [Token]) -> Read<'a, Tall<Expr>>
         requires calls { F.IsAlwaysCallable self.now.inner }
         requires answers { AnswersAim (F.post self.now.inner) self.now.turns self.now.room }

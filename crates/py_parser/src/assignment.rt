@@ -1,25 +1,25 @@
 //! Assignments, and expressions as statements.
 ghost use Rattle.std.specs.Prelude.{◌≡◌, ◌≤◌, [], None, Some};
-ghost use Rattle.py_parser.specs.inner.Lines.{equals_at, run_or_assign, run_at, running_at};
+ghost use Rattle.py_grammar.specs.inner.Lines.{equals_at, run_or_assign, run_at, running_at};
 ghost use Rattle.py_parser.specs.inner.Outcome.{Gives};
-ghost use Rattle.py_parser.specs.inner.Aiming.{readers};
+ghost use Rattle.py_grammar.specs.inner.Aiming.{readers};
 
 use crate::cursor::{Read, keyword_next, line_of, op_next, refused, rest};
 use crate::expression::expression;
-use crate::fault::Fault;
 use crate::operators::assigned_next;
 use crate::reader::TESTS;
 use crate::request::Request;
-use crate::tall::{HEIGHT_LIMIT, Tall, is_single};
+use crate::tall::{HEIGHT_LIMIT, is_single};
 use crate::target::{TargetPlace, check_target};
 use py_base::Construct;
+use py_grammar::{Fault, Tall};
 use py_tokens::{Token, keyword, operator};
 use py_tree::{Expr, Operator, Stmt};
 use sqlite_items::Items;
 use std::alloc::Global;
 
 /// After an expression, where `=` may follow: the targets, and the value.
-#[tactic(auto, unfolding(crate::specs::inner::Lines::equals_at))]
+#[tactic(auto, unfolding(py_grammar::specs::inner::Lines::equals_at))]
 fn equals<'a>(
     alloc: Global,
     turns: usize,
@@ -61,7 +61,7 @@ fn run_or_assign(line: u32, targets: Items<Expr>, value: Expr) -> Stmt
 }
 
 /// After the first expression of a statement that began on this line, where no augmented assignment follows.
-#[tactic(auto, unfolding(crate::specs::inner::Lines::run_at))]
+#[tactic(auto, unfolding(py_grammar::specs::inner::Lines::run_at))]
 fn assign<'a>(
     alloc: Global,
     turns: usize,
@@ -79,7 +79,7 @@ fn assign<'a>(
 
 /// After the first expression of a statement that began on this line, where the augmented assignment with this operator
 /// comes next.
-#[tactic(auto, unfolding(crate::specs::inner::Lines::run_at))]
+#[tactic(auto, unfolding(py_grammar::specs::inner::Lines::run_at))]
 fn augment<'a>(
     alloc: Global,
     turns: usize,
@@ -108,7 +108,7 @@ fn augment<'a>(
 }
 
 /// A statement that begins with an expression: the expression alone, an assignment or an augmented one.
-#[tactic(auto, unfolding(crate::specs::inner::Lines::running_at))]
+#[tactic(auto, unfolding(py_grammar::specs::inner::Lines::running_at))]
 pub fn running<'a>(
     alloc: Global,
     turns: usize,

@@ -2,18 +2,18 @@
 ghost use Rattle.std.specs.Prelude.{◌≡◌, ◌+◌, ◌<◌, ◌≤◌, IfOk, MatchOption, [], None, Some};
 ghost use Rattle.py_parser.specs.inner.Asking.{Answers};
 ghost use Rattle.py_parser.specs.inner.Outcome.{Gives};
-ghost use Rattle.py_parser.specs.inner.Reading.{reads, first, string_of, is_unicode, strings_at, pairs_at, round_at, round_close, list_at, list_close, dict_at, dict_value, dict_close, atom_of, atom_at};
-ghost use Rattle.py_parser.specs.inner.Tall.{plain, push_pair};
+ghost use Rattle.py_grammar.specs.inner.Reading.{reads, first, string_of, is_unicode, strings_at, pairs_at, round_at, round_close, list_at, list_close, dict_at, dict_value, dict_close, atom_of, atom_at};
+ghost use Rattle.py_grammar.specs.inner.Tall.{plain, push_pair};
 ghost use Rattle.py_tokens.specs.declared.token.TokenKind.TheVariants as k;
 
 use crate::cursor::{Read, comes, keyword_next, no_start, op_next, refused, rest, take_op};
 use crate::error::ParseError;
-use crate::fault::Fault;
 use crate::node;
 use crate::reader::{Reader, TEST};
 use crate::request::Request;
-use crate::tall::{HEIGHT_LIMIT, Tall, no_tests, plain, push_pair};
+use crate::tall::{HEIGHT_LIMIT, no_tests, plain, push_pair};
 use py_base::{Bytes, Construct, split};
+use py_grammar::{Fault, Tall};
 use py_tokens::{Other, Token, TokenKind, keyword, operator};
 use py_tree::{Expr, Pair};
 use sqlite_items::Items;
@@ -57,7 +57,7 @@ fn unicode_next(tokens: &[Token]) -> bool
 }
 
 /// Strings after one that was read, joined to it.
-#[tactic(auto, unfolding(crate::specs::inner::Reading::strings_at))]
+#[tactic(auto, unfolding(py_grammar::specs::inner::Reading::strings_at))]
 fn strings<'a>(alloc: Global, turns: usize, first: &Bytes, tokens: &'a [Token]) -> Read<'a, Bytes>
     ensures { Gives (λ x. (x.0, x.1.now)) result (strings_at turns first.now tokens.now) }
 {
@@ -106,7 +106,7 @@ impl<F: for<'b> Fn(Request, &'b [Token]) -> Result<(Tall<Expr>, &'b [Token]), Pa
     }
 
     /// After `(`.
-    #[tactic(auto, unfolding(crate::specs::inner::Reading::round_at))]
+    #[tactic(auto, unfolding(py_grammar::specs::inner::Reading::round_at))]
     fn round<'a>(&self, tokens: &'a [Token]) -> Read<'a, Tall<Expr>>
         requires calls { F.IsAlwaysCallable self.now.inner }
         requires answers { Answers (F.post self.now.inner) self.now.turns self.now.budget }
@@ -144,7 +144,7 @@ impl<F: for<'b> Fn(Request, &'b [Token]) -> Result<(Tall<Expr>, &'b [Token]), Pa
     }
 
     /// After `[`.
-    #[tactic(auto, unfolding(crate::specs::inner::Reading::list_at))]
+    #[tactic(auto, unfolding(py_grammar::specs::inner::Reading::list_at))]
     fn list<'a>(&self, tokens: &'a [Token]) -> Read<'a, Tall<Expr>>
         requires calls { F.IsAlwaysCallable self.now.inner }
         requires answers { Answers (F.post self.now.inner) self.now.turns self.now.budget }
@@ -161,7 +161,7 @@ impl<F: for<'b> Fn(Request, &'b [Token]) -> Result<(Tall<Expr>, &'b [Token]), Pa
     }
 
     /// Further pairs, each after a comma, which may also trail.
-    #[tactic(auto, unfolding(crate::specs::inner::Reading::pairs_at))]
+    #[tactic(auto, unfolding(py_grammar::specs::inner::Reading::pairs_at))]
     fn pairs<'a>(
         &self,
         key: Tall<Expr>,
@@ -245,7 +245,7 @@ impl<F: for<'b> Fn(Request, &'b [Token]) -> Result<(Tall<Expr>, &'b [Token]), Pa
     }
 
     /// After `{`.
-    #[tactic(auto, unfolding(crate::specs::inner::Reading::dict_at))]
+    #[tactic(auto, unfolding(py_grammar::specs::inner::Reading::dict_at))]
     fn dict<'a>(&self, tokens: &'a [Token]) -> Read<'a, Tall<Expr>>
         requires calls { F.IsAlwaysCallable self.now.inner }
         requires answers { Answers (F.post self.now.inner) self.now.turns self.now.budget }
@@ -281,7 +281,7 @@ impl<F: for<'b> Fn(Request, &'b [Token]) -> Result<(Tall<Expr>, &'b [Token]), Pa
     }
 
     /// An atom.
-    #[tactic(auto, unfolding(crate::specs::inner::Reading::atom_at))]
+    #[tactic(auto, unfolding(py_grammar::specs::inner::Reading::atom_at))]
     pub fn atom<'a>(&self, tokens: &'a [Token]) -> Read<'a, Tall<Expr>>
         requires calls { F.IsAlwaysCallable self.now.inner }
         requires answers { Answers (F.post self.now.inner) self.now.turns self.now.budget }

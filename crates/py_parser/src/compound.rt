@@ -1,11 +1,11 @@
 //! Compound statements and blocks.
 ghost use Rattle.std.specs.Prelude.{◌≡◌, ◌+◌, ◌-◌, ◌<◌, ◌≤◌, [], ◌∷◌, IfOk};
 ghost use Rattle.py_tokens.specs.declared.token.TokenKind.TheVariants as k;
-ghost use Rattle.py_parser.specs.inner.Lines.{line_at, body_at, arm_at, elifs_at, clause_at, handler_at, handlers_at, try_at, def_at, class_at, compound_at, is_compound, statement_by, statement_at, suite_at, line_of_at, statements_at};
+ghost use Rattle.py_grammar.specs.inner.Lines.{line_at, body_at, arm_at, elifs_at, clause_at, handler_at, handlers_at, try_at, def_at, class_at, compound_at, is_compound, statement_by, statement_at, suite_at, line_of_at, statements_at};
 ghost use Rattle.py_parser.specs.inner.Outcome.{Gives};
-ghost use Rattle.py_parser.specs.inner.Aiming.{readers};
+ghost use Rattle.py_grammar.specs.inner.Aiming.{readers};
 ghost use Rattle.py_parser.specs.inner.Suites.{AnswersStatements, inner_block, parts_of, if_at, while_at, for_at, tried_at, alone_at};
-ghost use Rattle.py_parser.specs.inner.Tall.{tree_or};
+ghost use Rattle.py_grammar.specs.inner.Tall.{tree_or};
 
 use crate::cursor::{
     Read, dedent_next, indent_next, keyword_next, line_of, newline_next, op_next, refused, rest,
@@ -13,14 +13,14 @@ use crate::cursor::{
 };
 use crate::error::ParseError;
 use crate::expression::expression;
-use crate::fault::Fault;
 use crate::header::{base, caught, loop_target, parameters};
 use crate::reader::{TEST, TESTS};
 use crate::request::Request;
 use crate::simple_line::line;
 use crate::statement::tree_or;
-use crate::tall::{HEIGHT_LIMIT, Tall};
+use crate::tall::HEIGHT_LIMIT;
 use py_base::{Construct, split};
+use py_grammar::{Fault, Tall};
 use py_tokens::{Token, TokenKind, keyword, operator};
 use py_tree::{Arm, Clause, Expr, Handler, Stmt};
 use sqlite_items::Items;
@@ -103,7 +103,7 @@ impl<F: for<'b> Fn(&'b [Token]) -> Result<(Items<Stmt>, &'b [Token]), ParseError
     }
 
     /// The statements of a block, up to its end.
-    #[tactic(auto, unfolding(crate::specs::inner::Lines::suite_at))]
+    #[tactic(auto, unfolding(py_grammar::specs::inner::Lines::suite_at))]
     fn suite<'a>(&self, tokens: &'a [Token]) -> Read<'a, Items<Stmt>>
         requires calls { F.IsAlwaysCallable self.now.statement }
         requires answers { AnswersStatements (F.post self.now.statement) self.now.turns (self.now.budget - 1) }
@@ -125,7 +125,7 @@ impl<F: for<'b> Fn(&'b [Token]) -> Result<(Items<Stmt>, &'b [Token]), ParseError
     }
 
     /// A block: a line of its own indentation and more, or what is left of a line.
-    #[tactic(auto, unfolding(crate::specs::inner::Lines::block_at, crate::specs::inner::Lines::plain_at))]
+    #[tactic(auto, unfolding(py_grammar::specs::inner::Lines::block_at, py_grammar::specs::inner::Lines::plain_at))]
     fn block<'a>(&self, tokens: &'a [Token]) -> Read<'a, Items<Stmt>>
         requires calls { F.IsAlwaysCallable self.now.statement }
         requires answers { AnswersStatements (F.post self.now.statement) self.now.turns (self.now.budget - 1) }
@@ -148,7 +148,7 @@ impl<F: for<'b> Fn(&'b [Token]) -> Result<(Items<Stmt>, &'b [Token]), ParseError
     }
 
     /// A colon and a block.
-    #[tactic(auto, unfolding(crate::specs::inner::Lines::body_at))]
+    #[tactic(auto, unfolding(py_grammar::specs::inner::Lines::body_at))]
     fn body<'a>(&self, tokens: &'a [Token]) -> Read<'a, Items<Stmt>>
         requires calls { F.IsAlwaysCallable self.now.statement }
         requires answers { AnswersStatements (F.post self.now.statement) self.now.turns (self.now.budget - 1) }
@@ -160,7 +160,7 @@ impl<F: for<'b> Fn(&'b [Token]) -> Result<(Items<Stmt>, &'b [Token]), ParseError
     }
 
     /// A test and its block, of a clause that begins on this line.
-    #[tactic(auto, unfolding(crate::specs::inner::Lines::arm_at))]
+    #[tactic(auto, unfolding(py_grammar::specs::inner::Lines::arm_at))]
     fn arm<'a>(&self, line: u32, tokens: &'a [Token]) -> Read<'a, Arm>
         requires calls { F.IsAlwaysCallable self.now.statement }
         requires answers { AnswersStatements (F.post self.now.statement) self.now.turns (self.now.budget - 1) }
@@ -176,7 +176,7 @@ impl<F: for<'b> Fn(&'b [Token]) -> Result<(Items<Stmt>, &'b [Token]), ParseError
     }
 
     /// The arms of `elif` after the first arm.
-    #[tactic(auto, unfolding(crate::specs::inner::Lines::elifs_at))]
+    #[tactic(auto, unfolding(py_grammar::specs::inner::Lines::elifs_at))]
     fn elifs<'a>(&self, first: Arm, tokens: &'a [Token]) -> Read<'a, Items<Arm>>
         requires calls { F.IsAlwaysCallable self.now.statement }
         requires answers { AnswersStatements (F.post self.now.statement) self.now.turns (self.now.budget - 1) }
@@ -200,7 +200,7 @@ impl<F: for<'b> Fn(&'b [Token]) -> Result<(Items<Stmt>, &'b [Token]), ParseError
     }
 
     /// A clause that this keyword begins, where it comes.
-    #[tactic(auto, unfolding(crate::specs::inner::Lines::clause_at))]
+    #[tactic(auto, unfolding(py_grammar::specs::inner::Lines::clause_at))]
     fn clause<'a>(&self, word: u8, tokens: &'a [Token]) -> Read<'a, Option<Clause>>
         requires calls { F.IsAlwaysCallable self.now.statement }
         requires answers { AnswersStatements (F.post self.now.statement) self.now.turns (self.now.budget - 1) }
@@ -217,7 +217,7 @@ impl<F: for<'b> Fn(&'b [Token]) -> Result<(Items<Stmt>, &'b [Token]), ParseError
     }
 
     /// After `except`, which stands on this line.
-    #[tactic(auto, unfolding(crate::specs::inner::Lines::handler_at))]
+    #[tactic(auto, unfolding(py_grammar::specs::inner::Lines::handler_at))]
     fn handler<'a>(&self, line: u32, tokens: &'a [Token]) -> Read<'a, Handler>
         requires calls { F.IsAlwaysCallable self.now.statement }
         requires answers { AnswersStatements (F.post self.now.statement) self.now.turns (self.now.budget - 1) }
@@ -238,7 +238,7 @@ impl<F: for<'b> Fn(&'b [Token]) -> Result<(Items<Stmt>, &'b [Token]), ParseError
     }
 
     /// `except` clauses, up to one without a test.
-    #[tactic(auto, unfolding(crate::specs::inner::Lines::handlers_at))]
+    #[tactic(auto, unfolding(py_grammar::specs::inner::Lines::handlers_at))]
     fn handlers<'a>(&self, tokens: &'a [Token]) -> Read<'a, Items<Handler>>
         requires calls { F.IsAlwaysCallable self.now.statement }
         requires answers { AnswersStatements (F.post self.now.statement) self.now.turns (self.now.budget - 1) }
@@ -265,7 +265,7 @@ impl<F: for<'b> Fn(&'b [Token]) -> Result<(Items<Stmt>, &'b [Token]), ParseError
     }
 
     /// After `try` and its block.
-    #[tactic(auto, unfolding(crate::specs::inner::Lines::try_at))]
+    #[tactic(auto, unfolding(py_grammar::specs::inner::Lines::try_at))]
     fn try_more<'a>(&self, first: Clause, tokens: &'a [Token]) -> Read<'a, Stmt>
         requires calls { F.IsAlwaysCallable self.now.statement }
         requires answers { AnswersStatements (F.post self.now.statement) self.now.turns (self.now.budget - 1) }
@@ -303,7 +303,7 @@ impl<F: for<'b> Fn(&'b [Token]) -> Result<(Items<Stmt>, &'b [Token]), ParseError
     }
 
     /// After `def`, which stands on this line.
-    #[tactic(auto, unfolding(crate::specs::inner::Lines::def_at))]
+    #[tactic(auto, unfolding(py_grammar::specs::inner::Lines::def_at))]
     fn function<'a>(&self, line: u32, tokens: &'a [Token]) -> Read<'a, Stmt>
         requires calls { F.IsAlwaysCallable self.now.statement }
         requires answers { AnswersStatements (F.post self.now.statement) self.now.turns (self.now.budget - 1) }
@@ -321,7 +321,7 @@ impl<F: for<'b> Fn(&'b [Token]) -> Result<(Items<Stmt>, &'b [Token]), ParseError
     }
 
     /// After `class`, which stands on this line.
-    #[tactic(auto, unfolding(crate::specs::inner::Lines::class_at))]
+    #[tactic(auto, unfolding(py_grammar::specs::inner::Lines::class_at))]
     fn class<'a>(&self, line: u32, tokens: &'a [Token]) -> Read<'a, Stmt>
         requires calls { F.IsAlwaysCallable self.now.statement }
         requires answers { AnswersStatements (F.post self.now.statement) self.now.turns (self.now.budget - 1) }
@@ -439,7 +439,7 @@ impl<F: for<'b> Fn(&'b [Token]) -> Result<(Items<Stmt>, &'b [Token]), ParseError
     }
 
     /// A statement, or the simple ones of a line, of a height of at most `budget + 1`.
-    #[tactic(auto, unfolding(crate::specs::inner::Lines::statement_at))]
+    #[tactic(auto, unfolding(py_grammar::specs::inner::Lines::statement_at))]
     pub fn statement<'a>(&self, tokens: &'a [Token]) -> Read<'a, Items<Stmt>>
         requires calls { F.IsAlwaysCallable self.now.statement }
         requires answers { AnswersStatements (F.post self.now.statement) self.now.turns (self.now.budget - 1) }

@@ -1,16 +1,16 @@
 //! The tokens from a place on.
 ghost use Rattle.std.specs.Prelude.{◌≡◌, [], ◌∷◌, MatchOption, Err};
 ghost use Rattle.py_parser.specs.declared.error.ParseError.TheVariants as error;
-ghost use Rattle.py_parser.specs.inner.Lines.{is_newline, is_indent, is_dedent, is_end};
+ghost use Rattle.py_grammar.specs.inner.Lines.{is_newline, is_indent, is_dedent, is_end};
 ghost use Rattle.py_parser.specs.inner.Outcome.{Gives};
-ghost use Rattle.py_parser.specs.Refused.{refusal_of};
-ghost use Rattle.py_parser.specs.inner.Reading.{first, rest, is_op, is_keyword, op_at, keyword_at, name_at, starts, left_at, no_start, comes};
-ghost use Rattle.py_parser.specs.Words.{line_of};
+ghost use Rattle.py_grammar.specs.Refused.{refusal_of};
+ghost use Rattle.py_grammar.specs.inner.Reading.{first, rest, is_op, is_keyword, op_at, keyword_at, name_at, starts, left_at, no_start, comes};
+ghost use Rattle.py_grammar.specs.Words.{line_of};
 ghost use Rattle.py_tokens.specs.declared.token.TokenKind.TheVariants as k;
 
 use crate::error::ParseError;
-use crate::fault::Fault;
 use py_base::{Bytes, Construct, split};
+use py_grammar::Fault;
 use py_tokens::{Other, Token, TokenKind, keyword, operator};
 use std::alloc::Global;
 
@@ -83,7 +83,7 @@ pub fn keyword_next(tokens: &[Token], n: u8) -> bool
 }
 
 /// The tokens after this operator.
-#[tactic(auto, unfolding(crate::specs::inner::Reading::op_at))]
+#[tactic(auto, unfolding(py_grammar::specs::inner::Reading::op_at))]
 pub fn take_op(tokens: &[Token], n: u8) -> Result<&[Token], ParseError>
     ensures { Gives (λ r. (tt, r.now)) result (op_at n tokens.now) }
 {
@@ -95,7 +95,7 @@ pub fn take_op(tokens: &[Token], n: u8) -> Result<&[Token], ParseError>
 }
 
 /// The tokens after this keyword.
-#[tactic(auto, unfolding(crate::specs::inner::Reading::keyword_at))]
+#[tactic(auto, unfolding(py_grammar::specs::inner::Reading::keyword_at))]
 pub fn take_keyword(tokens: &[Token], n: u8) -> Result<&[Token], ParseError>
     ensures { Gives (λ r. (tt, r.now)) result (keyword_at n tokens.now) }
 {
@@ -107,7 +107,7 @@ pub fn take_keyword(tokens: &[Token], n: u8) -> Result<&[Token], ParseError>
 }
 
 /// The name that comes next.
-#[tactic(auto, unfolding(crate::specs::inner::Reading::name_at))]
+#[tactic(auto, unfolding(py_grammar::specs::inner::Reading::name_at))]
 pub fn take_name<'a>(alloc: Global, tokens: &'a [Token]) -> Read<'a, Bytes>
     ensures { Gives (λ x. (x.0, x.1.now)) result (name_at tokens.now) }
 {

@@ -3,15 +3,15 @@ ghost use Rattle.std.specs.Prelude.{◌≡◌, ◌+◌, ◌-◌, ◌<◌, ◌≤
 ghost use Rattle.py_parser.specs.inner.Asking.{Answers, requested, held};
 ghost use Rattle.py_parser.specs.inner.Outcome.{Gives};
 ghost use Rattle.py_parser.specs.inner.Pieces.{too_high};
-ghost use Rattle.py_parser.specs.inner.Reading.{reads, first, tests_at};
-ghost use Rattle.py_parser.specs.inner.Tall.{start};
+ghost use Rattle.py_grammar.specs.inner.Reading.{reads, first, tests_at};
+ghost use Rattle.py_grammar.specs.inner.Tall.{start};
 
 use crate::cursor::{Read, no_start, refused, starts};
 use crate::error::ParseError;
-use crate::fault::Fault;
 use crate::reader::{Reader, TEST};
 use crate::request::Request;
-use crate::tall::{HEIGHT_LIMIT, Tall};
+use crate::tall::HEIGHT_LIMIT;
+use py_grammar::{Fault, Tall};
 use py_tokens::Token;
 use py_tree::Expr;
 use sqlite_items::Items;

@@ -1,21 +1,21 @@
 //! What follows an expression of the level of targets.
 ghost use Rattle.std.specs.Prelude.{◌≡◌, ◌+◌, ◌-◌, ◌<◌, ◌≤◌, max, IfOk};
-ghost use Rattle.py_parser.specs.inner.Aiming.{grown_at, grows, risen_at};
+ghost use Rattle.py_grammar.specs.inner.Aiming.{grown_at, grows, risen_at};
 ghost use Rattle.py_parser.specs.inner.Asking.{Answers, requested, held};
-ghost use Rattle.py_parser.specs.inner.Follow.{takes};
+ghost use Rattle.py_grammar.specs.inner.Follow.{takes};
 ghost use Rattle.py_parser.specs.inner.Outcome.{Gives};
-ghost use Rattle.py_parser.specs.inner.Reading.{reads, first, trail_at};
+ghost use Rattle.py_grammar.specs.inner.Reading.{reads, first, trail_at};
 
 use crate::cursor::{Read, comes, keyword_next, op_next, refused};
 use crate::error::ParseError;
 use crate::expression::expression;
-use crate::fault::Fault;
 use crate::operators::operator_next;
 use crate::reader::{Reader, TEST};
 use crate::request::Request;
-use crate::rung::{Rung, rung_of};
-use crate::tall::{HEIGHT_LIMIT, Tall};
+use crate::rung::rung_of;
+use crate::tall::HEIGHT_LIMIT;
 use crate::trailer::trailer_next;
+use py_grammar::{Fault, Rung, Tall};
 use py_tokens::{Token, keyword, operator};
 use py_tree::Expr;
 use std::alloc::Global;
@@ -107,7 +107,7 @@ fn grown<'a>(
 
 /// The test that begins with this expression of the level of targets, of a height of at most `budget`; or the
 /// expression alone, which may be higher.
-#[tactic(auto, unfolding(crate::specs::inner::Aiming::risen_at))]
+#[tactic(auto, unfolding(py_grammar::specs::inner::Aiming::risen_at))]
 pub fn risen<'a>(
     alloc: Global,
     turns: usize,

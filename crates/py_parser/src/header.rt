@@ -1,29 +1,29 @@
 //! What stands between the keyword of a compound statement and its block.
 ghost use Rattle.std.specs.Prelude.{◌≡◌, ◌-◌, ◌<◌, ◌≤◌, [], false, IfOk};
-ghost use Rattle.py_parser.specs.inner.Lines.{loops_at, loop_at, caught_at, param_at, params_at, base_at};
+ghost use Rattle.py_grammar.specs.inner.Lines.{loops_at, loop_at, caught_at, param_at, params_at, base_at};
 ghost use Rattle.py_parser.specs.inner.Outcome.{Gives};
-ghost use Rattle.py_parser.specs.inner.Aiming.{readers};
+ghost use Rattle.py_grammar.specs.inner.Aiming.{readers};
 ghost use Rattle.py_parser.specs.inner.Suites.{parameters_at};
-ghost use Rattle.py_parser.specs.inner.Tall.{start};
+ghost use Rattle.py_grammar.specs.inner.Tall.{start};
 
 use crate::cursor::{Read, comes, keyword_next, op_next, refused, rest, take_name, take_op};
 use crate::expression::expression;
-use crate::fault::Fault;
 use crate::node;
 use crate::reader::{TARGET, TEST};
 use crate::request::Request;
 use crate::statement::maybe;
-use crate::tall::{HEIGHT_LIMIT, Tall, push, start};
+use crate::tall::{HEIGHT_LIMIT, push, start};
 use crate::target::{TargetPlace, target};
 use crate::trailer::star_next;
 use py_base::Construct;
+use py_grammar::{Fault, Tall};
 use py_tokens::{Token, keyword, operator};
 use py_tree::{Expr, Param};
 use sqlite_items::Items;
 use std::alloc::Global;
 
 /// A parameter; `later` says that one before it has a default.
-#[tactic(auto, unfolding(crate::specs::inner::Lines::param_at))]
+#[tactic(auto, unfolding(py_grammar::specs::inner::Lines::param_at))]
 fn param<'a>(
     alloc: Global,
     turns: usize,
@@ -54,7 +54,7 @@ fn param<'a>(
 }
 
 /// One parameter or more.
-#[tactic(auto, unfolding(crate::specs::inner::Lines::params_at))]
+#[tactic(auto, unfolding(py_grammar::specs::inner::Lines::params_at))]
 fn params<'a>(
     alloc: Global,
     turns: usize,
@@ -99,7 +99,7 @@ pub fn parameters<'a>(
 }
 
 /// What may stand between `except` and its colon: a test, and where what is caught is put.
-#[tactic(auto, unfolding(crate::specs::inner::Lines::caught_at))]
+#[tactic(auto, unfolding(py_grammar::specs::inner::Lines::caught_at))]
 pub fn caught<'a>(
     alloc: Global,
     turns: usize,
@@ -121,7 +121,7 @@ pub fn caught<'a>(
 }
 
 /// The base of a class, where one stands in brackets.
-#[tactic(auto, unfolding(crate::specs::inner::Lines::base_at))]
+#[tactic(auto, unfolding(py_grammar::specs::inner::Lines::base_at))]
 pub fn base<'a>(
     alloc: Global,
     turns: usize,
@@ -143,7 +143,7 @@ pub fn base<'a>(
 }
 
 /// Targets of `for` after the first, each after a comma, which may also trail.
-#[tactic(auto, unfolding(crate::specs::inner::Lines::loops_at))]
+#[tactic(auto, unfolding(py_grammar::specs::inner::Lines::loops_at))]
 fn loop_targets<'a>(
     alloc: Global,
     turns: usize,
@@ -175,7 +175,7 @@ fn loop_targets<'a>(
 }
 
 /// The targets of `for`. A target is read with the whole budget first, since no comma may follow.
-#[tactic(auto, unfolding(crate::specs::inner::Lines::loop_at))]
+#[tactic(auto, unfolding(py_grammar::specs::inner::Lines::loop_at))]
 pub fn loop_target<'a>(
     alloc: Global,
     turns: usize,

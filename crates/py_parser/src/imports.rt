@@ -1,14 +1,14 @@
 //! Imports: the modules that may be imported, their members, and the statements.
 ghost use Rattle.std.specs.Prelude.{◌≡◌, [], ◌∷◌, codes};
 ghost use Rattle.std.specs.Str.{bytes_eq};
-ghost use Rattle.py_parser.specs.inner.Lines.{import_name_at, renamed_at, imported_at, imports_at, from_at};
+ghost use Rattle.py_grammar.specs.inner.Lines.{import_name_at, renamed_at, imported_at, imports_at, from_at};
 ghost use Rattle.py_parser.specs.inner.Outcome.{Gives};
 ghost use Rattle.py_parser.specs.inner.SimplePieces.{may_import, import_at};
-ghost use Rattle.py_parser.specs.Words.{is_module, is_member};
+ghost use Rattle.py_grammar.specs.Words.{is_module, is_member};
 
 use crate::cursor::{Read, keyword_next, op_next, refused, rest, take_keyword, take_name};
-use crate::fault::Fault;
 use py_base::{Bytes, Construct};
+use py_grammar::Fault;
 use py_tokens::{Token, keyword, operator};
 use py_tree::{Imported, Stmt};
 use sqlite_items::Items;
@@ -66,7 +66,7 @@ fn may_import(what: &Importable, name: &[u8]) -> bool
 }
 
 /// A name that may come; another is left out.
-#[tactic(auto, unfolding(crate::specs::inner::Lines::import_name_at))]
+#[tactic(auto, unfolding(py_grammar::specs::inner::Lines::import_name_at))]
 fn import_name<'a>(alloc: Global, what: &Importable, tokens: &'a [Token]) -> Read<'a, Bytes>
     ensures { Gives (λ x. (x.0, x.1.now)) result (import_name_at (may_import what.now) tokens.now) }
 {
@@ -78,7 +78,7 @@ fn import_name<'a>(alloc: Global, what: &Importable, tokens: &'a [Token]) -> Rea
 }
 
 /// The name after `as`, where `as` comes.
-#[tactic(auto, unfolding(crate::specs::inner::Lines::renamed_at))]
+#[tactic(auto, unfolding(py_grammar::specs::inner::Lines::renamed_at))]
 fn renamed<'a>(alloc: Global, tokens: &'a [Token]) -> Read<'a, Option<Bytes>>
     ensures { Gives (λ x. (x.0, x.1.now)) result (renamed_at tokens.now) }
 {
@@ -90,7 +90,7 @@ fn renamed<'a>(alloc: Global, tokens: &'a [Token]) -> Read<'a, Option<Bytes>>
 }
 
 /// A name that may come, and the name after `as`.
-#[tactic(auto, unfolding(crate::specs::inner::Lines::imported_at))]
+#[tactic(auto, unfolding(py_grammar::specs::inner::Lines::imported_at))]
 fn imported<'a>(alloc: Global, what: &Importable, tokens: &'a [Token]) -> Read<'a, Imported>
     ensures { Gives (λ x. (x.0, x.1.now)) result (imported_at (may_import what.now) tokens.now) }
 {
@@ -100,7 +100,7 @@ fn imported<'a>(alloc: Global, what: &Importable, tokens: &'a [Token]) -> Read<'
 }
 
 /// What is imported after the first, each after a comma.
-#[tactic(auto, unfolding(crate::specs::inner::Lines::imports_at))]
+#[tactic(auto, unfolding(py_grammar::specs::inner::Lines::imports_at))]
 fn imports<'a>(
     alloc: Global,
     turns: usize,
@@ -135,7 +135,7 @@ pub fn import<'a>(alloc: Global, turns: usize, line: u32, tokens: &'a [Token]) -
 }
 
 /// After `from`, in a statement that began on this line.
-#[tactic(auto, unfolding(crate::specs::inner::Lines::from_at))]
+#[tactic(auto, unfolding(py_grammar::specs::inner::Lines::from_at))]
 pub fn from<'a>(alloc: Global, turns: usize, line: u32, tokens: &'a [Token]) -> Read<'a, Stmt>
     ensures { Gives (λ x. (x.0, x.1.now)) result (from_at turns line tokens.now) }
 {

@@ -1,23 +1,23 @@
 //! Levels of operators.
 ghost use Rattle.std.specs.Prelude.{◌≡◌, ◌+◌, ◌<◌, ◌≤◌, [], max, IfOk, nat_lt};
-ghost use Rattle.py_parser.specs.inner.Aiming.{after_rung, grown_at};
+ghost use Rattle.py_grammar.specs.inner.Aiming.{after_rung, grown_at};
 ghost use Rattle.py_parser.specs.inner.Asking.{Answers};
 ghost use Rattle.py_parser.specs.inner.Outcome.{Gives};
 ghost use Rattle.py_parser.specs.inner.Pieces.{negated_at, signed_at};
-ghost use Rattle.py_parser.specs.inner.Reading.{reads, power_at, links_at, chain_at, choice_at, after_at, level_at};
-ghost use Rattle.py_parser.specs.inner.Tall.{plain};
-ghost use Rattle.py_parser.specs.Words.{below};
+ghost use Rattle.py_grammar.specs.inner.Reading.{reads, power_at, links_at, chain_at, choice_at, after_at, level_at};
+ghost use Rattle.py_grammar.specs.inner.Tall.{plain};
+ghost use Rattle.py_grammar.specs.Words.{below};
 
 use crate::cursor::{Read, keyword_next, op_next, refused, rest, take_keyword};
 use crate::error::ParseError;
-use crate::fault::Fault;
 use crate::node;
 use crate::operators::{below, operator_next, operator_rest, sign_next};
 use crate::reader::{Reader, TEST};
 use crate::request::Request;
-use crate::rung::{Rung, rung_of};
-use crate::tall::{HEIGHT_LIMIT, Tall, plain, push_link};
+use crate::rung::rung_of;
+use crate::tall::{HEIGHT_LIMIT, plain, push_link};
 use py_base::Construct;
+use py_grammar::{Fault, Rung, Tall};
 use py_tokens::{Token, keyword, operator};
 use py_tree::{Expr, Level, Link, Sign};
 use sqlite_items::Items;
@@ -43,7 +43,7 @@ impl<F: for<'b> Fn(Request, &'b [Token]) -> Result<(Tall<Expr>, &'b [Token]), Pa
     }
 
     /// After what may be raised to a power.
-    #[tactic(auto, unfolding(crate::specs::inner::Reading::power_at))]
+    #[tactic(auto, unfolding(py_grammar::specs::inner::Reading::power_at))]
     fn power<'a>(&self, base: Tall<Expr>, tokens: &'a [Token]) -> Read<'a, Tall<Expr>>
         requires calls { F.IsAlwaysCallable self.now.inner }
         requires answers { Answers (F.post self.now.inner) self.now.turns self.now.budget }
@@ -80,7 +80,7 @@ impl<F: for<'b> Fn(Request, &'b [Token]) -> Result<(Tall<Expr>, &'b [Token]), Pa
     }
 
     /// Operators of a level with their operands, as many as come.
-    #[tactic(auto, unfolding(crate::specs::inner::Reading::links_at))]
+    #[tactic(auto, unfolding(py_grammar::specs::inner::Reading::links_at))]
     fn links<'a>(&self, level: Level, tokens: &'a [Token]) -> Read<'a, Tall<Items<Link>>>
         requires calls { F.IsAlwaysCallable self.now.inner }
         requires answers { Answers (F.post self.now.inner) self.now.turns self.now.budget }
@@ -104,7 +104,7 @@ impl<F: for<'b> Fn(Request, &'b [Token]) -> Result<(Tall<Expr>, &'b [Token]), Pa
     }
 
     /// After the first operand of a level.
-    #[tactic(auto, unfolding(crate::specs::inner::Reading::chain_at))]
+    #[tactic(auto, unfolding(py_grammar::specs::inner::Reading::chain_at))]
     fn chain<'a>(
         &self,
         level: Level,
@@ -147,7 +147,7 @@ impl<F: for<'b> Fn(Request, &'b [Token]) -> Result<(Tall<Expr>, &'b [Token]), Pa
     }
 
     /// After what may be chosen.
-    #[tactic(auto, unfolding(crate::specs::inner::Reading::choice_at))]
+    #[tactic(auto, unfolding(py_grammar::specs::inner::Reading::choice_at))]
     fn choice<'a>(&self, value: Tall<Expr>, tokens: &'a [Token]) -> Read<'a, Tall<Expr>>
         requires calls { F.IsAlwaysCallable self.now.inner }
         requires answers { Answers (F.post self.now.inner) self.now.turns self.now.budget }
@@ -170,7 +170,7 @@ impl<F: for<'b> Fn(Request, &'b [Token]) -> Result<(Tall<Expr>, &'b [Token]), Pa
     }
 
     /// After a test, where a comma makes a tuple.
-    #[tactic(auto, unfolding(crate::specs::inner::Reading::after_at))]
+    #[tactic(auto, unfolding(py_grammar::specs::inner::Reading::after_at))]
     pub fn after<'a>(&self, test: Tall<Expr>, tokens: &'a [Token]) -> Read<'a, Tall<Expr>>
         requires calls { F.IsAlwaysCallable self.now.inner }
         requires answers { Answers (F.post self.now.inner) self.now.turns self.now.budget }
@@ -190,7 +190,7 @@ impl<F: for<'b> Fn(Request, &'b [Token]) -> Result<(Tall<Expr>, &'b [Token]), Pa
     }
 
     /// An expression of a level.
-    #[tactic(auto, unfolding(crate::specs::inner::Reading::level_at))]
+    #[tactic(auto, unfolding(py_grammar::specs::inner::Reading::level_at))]
     pub fn level<'a>(&self, level: u8, tokens: &'a [Token]) -> Read<'a, Tall<Expr>>
         requires calls { F.IsAlwaysCallable self.now.inner }
         requires answers { Answers (F.post self.now.inner) self.now.turns self.now.budget }
@@ -264,7 +264,7 @@ impl<F: for<'b> Fn(Request, &'b [Token]) -> Result<(Tall<Expr>, &'b [Token]), Pa
     }
 
     /// What so many rungs above the level of targets add after an expression of it, one after another.
-    #[tactic(auto, unfolding(crate::specs::inner::Aiming::grown_at))]
+    #[tactic(auto, unfolding(py_grammar::specs::inner::Aiming::grown_at))]
     pub fn grown<'a>(
         &self,
         rungs: u8,

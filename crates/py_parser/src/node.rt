@@ -1,9 +1,10 @@
 //! Expressions and trailers of their parts.
 ghost use Rattle.std.specs.Prelude.{◌≡◌, ◌<◌, IfOk};
-ghost use Rattle.py_parser.specs.inner.Tall.{of_name, of_int, of_string, of_group, unit, of_tuple, of_list, of_dict, of_trail, of_power, of_sign, of_chain, of_not, of_choice, of_attribute, of_index, of_slice, of_call, tall_or, tree_or};
+ghost use Rattle.py_grammar.specs.inner.Tall.{of_name, of_int, of_string, of_group, unit, of_tuple, of_list, of_dict, of_trail, of_power, of_sign, of_chain, of_not, of_choice, of_attribute, of_index, of_slice, of_call, tall_or, tree_or};
 
-use crate::tall::{HEIGHT_LIMIT, Tall, is_target, plain};
+use crate::tall::{HEIGHT_LIMIT, is_target, plain};
 use py_base::{Bytes, NoMemory};
+use py_grammar::Tall;
 use py_tree::{Expr, Form, Level, Link, Named, Pair, Sign, Trailer};
 use sqlite_items::{Boxed, Items};
 use std::alloc::Global;

@@ -1,9 +1,9 @@
 //! Operators and their tokens.
 ghost use Rattle.std.specs.Prelude.{◌≡◌};
-ghost use Rattle.py_parser.specs.inner.Lines.{assigned_of};
+ghost use Rattle.py_grammar.specs.inner.Lines.{assigned_of};
 ghost use Rattle.py_parser.specs.inner.Outcome.{Gives};
-ghost use Rattle.py_parser.specs.inner.Reading.{first, operator_of, operator_rest, sign_of};
-ghost use Rattle.py_parser.specs.Words.{below, assigned};
+ghost use Rattle.py_grammar.specs.inner.Reading.{first, operator_of, operator_rest, sign_of};
+ghost use Rattle.py_grammar.specs.Words.{below, assigned};
 ghost use Rattle.py_tokens.specs.declared.token.TokenKind.TheVariants as k;
 ghost use Rattle.py_tree.specs.declared.expr.Level.TheVariants as level;
 

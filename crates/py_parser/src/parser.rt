@@ -1,9 +1,10 @@
 //! The module of a list of tokens.
 ghost use Rattle.py_parser.specs.Parses.{Parses};
-ghost use Rattle.py_parser.specs.Refused.{EndsOnce};
+ghost use Rattle.py_grammar.specs.Refused.{EndsOnce};
 
 use crate::error::ParseError;
 use crate::suite::module;
+use py_grammar::grammar_law;
 use py_tokens::Token;
 use py_tree::Module;
 use std::alloc::Global;
@@ -20,6 +21,7 @@ pub fn parse(alloc: Global, tokens: &[Token]) -> Result<Module, ParseError>
     requires ends { EndsOnce tokens.now }
     ensures { Parses tokens.now result }
 {
+    grammar_law();
     match module(alloc, tokens) {
         Ok((module, _)) => Ok(module),
         Err(error) => Err(error),

@@ -2,13 +2,14 @@
 ghost use Rattle.std.specs.Prelude.{◌≡◌, ◌+◌, ◌≤◌, IfOk, nat_lt};
 ghost use Rattle.py_parser.specs.inner.Asking.{Answers};
 ghost use Rattle.py_parser.specs.inner.Outcome.{Gives};
-ghost use Rattle.py_parser.specs.inner.Reading.{reads, tests_at};
-ghost use Rattle.py_parser.specs.inner.Tall.{start};
+ghost use Rattle.py_grammar.specs.inner.Reading.{reads, tests_at};
+ghost use Rattle.py_grammar.specs.inner.Tall.{start};
 
 use crate::cursor::{Read, comes, op_next, rest};
 use crate::error::ParseError;
 use crate::request::Request;
-use crate::tall::{Tall, push, start};
+use crate::tall::{push, start};
+use py_grammar::Tall;
 use py_tokens::{Token, operator};
 use py_tree::Expr;
 use sqlite_items::Items;
@@ -67,7 +68,7 @@ impl<F: for<'b> Fn(Request, &'b [Token]) -> Result<(Tall<Expr>, &'b [Token]), Pa
     }
 
     /// Further tests, each after a comma; the truth value says that a comma trails.
-    #[tactic(auto, unfolding(crate::specs::inner::Reading::tests_at))]
+    #[tactic(auto, unfolding(py_grammar::specs::inner::Reading::tests_at))]
     pub fn tests<'a>(
         &self,
         first: Tall<Expr>,

@@ -1,6 +1,6 @@
 //! What a reader of expressions is asked for.
 
-use crate::tall::Tall;
+use py_grammar::Tall;
 use py_tree::Expr;
 
 /// What a reader of expressions is asked for.

@@ -1,27 +1,9 @@
-//! The levels of expressions.
+//! What each level of expressions adds to the level below it.
 ghost use Rattle.std.specs.Prelude.{◌≡◌};
-ghost use Rattle.py_parser.specs.inner.Reading.{rung_of};
+ghost use Rattle.py_grammar.specs.inner.Reading.{rung_of};
 
+use py_grammar::Rung;
 use py_tree::Level;
-
-/// What a level of expressions adds to the level below it.
-#[derive(Clone, Copy, Debug, Drop, PartialEq, Eq)]
-pub enum Rung {
-    /// Trailers after an atom.
-    Trailed,
-    /// `**`.
-    Powered,
-    /// `+`, `-` and `~` before an operand.
-    Signed,
-    /// Operators between operands.
-    Chained(Level),
-    /// `not`.
-    Negated,
-    /// `if` and `else` between operands.
-    Chosen,
-    /// Commas between tests.
-    Listed,
-}
 
 /// What the level above level `n` adds to it.
 pub fn rung_of(n: u8) -> Rung

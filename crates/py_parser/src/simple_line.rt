@@ -1,21 +1,21 @@
 //! The simple statements of a line.
 ghost use Rattle.std.specs.Prelude.{◌-◌, ◌<◌, ◌≤◌, [], ◌∷◌};
-ghost use Rattle.py_parser.specs.inner.Lines.{is_newline, plain_at, simple_at, line_more, line_at};
+ghost use Rattle.py_grammar.specs.inner.Lines.{is_newline, plain_at, simple_at, line_more, line_at};
 ghost use Rattle.py_parser.specs.inner.Outcome.{Gives};
-ghost use Rattle.py_parser.specs.inner.Aiming.{readers};
+ghost use Rattle.py_grammar.specs.inner.Aiming.{readers};
 
 use crate::cursor::{Read, newline_next, op_next, refused, rest};
 use crate::error::ParseError;
-use crate::fault::Fault;
 use crate::statement::simple;
 use crate::tall::HEIGHT_LIMIT;
+use py_grammar::Fault;
 use py_tokens::{Token, operator};
 use py_tree::Stmt;
 use sqlite_items::Items;
 use std::alloc::Global;
 
 /// The tokens after the end of a line.
-#[tactic(auto, unfolding(crate::specs::inner::Lines::plain_at))]
+#[tactic(auto, unfolding(py_grammar::specs::inner::Lines::plain_at))]
 fn take_newline(tokens: &[Token]) -> Result<&[Token], ParseError>
     ensures { Gives (λ r. (tt, r.now)) result (plain_at is_newline tokens.now) }
 {
@@ -27,7 +27,7 @@ fn take_newline(tokens: &[Token]) -> Result<&[Token], ParseError>
 }
 
 /// The simple statements of a line after the first, each after a semicolon, which may also trail; up to the line's end.
-#[tactic(auto, unfolding(crate::specs::inner::Lines::line_more))]
+#[tactic(auto, unfolding(py_grammar::specs::inner::Lines::line_more))]
 fn line_more<'a>(
     alloc: Global,
     turns: usize,
@@ -61,7 +61,7 @@ fn line_more<'a>(
 
 /// The simple statements of a line, each of a height of at most `budget`, which is above zero, up to and with the
 /// line's end. No loop takes more than so many turns.
-#[tactic(auto, unfolding(crate::specs::inner::Lines::line_at))]
+#[tactic(auto, unfolding(py_grammar::specs::inner::Lines::line_at))]
 pub fn line<'a>(
     alloc: Global,
     turns: usize,

@@ -1,28 +1,28 @@
 //! Simple statements.
 ghost use Rattle.std.specs.Prelude.{◌≡◌, ◌-◌, ◌<◌, ◌≤◌, [], ◌∷◌};
-ghost use Rattle.py_parser.specs.inner.Lines.{maybe_at, names_at, print_at, raise_at, assert_at, worded_at, running_at, simple_at};
+ghost use Rattle.py_grammar.specs.inner.Lines.{maybe_at, names_at, print_at, raise_at, assert_at, worded_at, running_at, simple_at};
 ghost use Rattle.py_parser.specs.inner.Outcome.{Gives};
-ghost use Rattle.py_parser.specs.inner.Aiming.{readers};
+ghost use Rattle.py_grammar.specs.inner.Aiming.{readers};
 ghost use Rattle.py_parser.specs.inner.SimplePieces.{return_at, raise_or_none_at, del_at, global_at, assert_test_at};
-ghost use Rattle.py_parser.specs.inner.Tall.{tree_or};
+ghost use Rattle.py_grammar.specs.inner.Tall.{tree_or};
 
 use crate::assignment::running;
 use crate::cursor::{Read, comes, line_of, op_next, refused, rest, take_name};
 use crate::expression::{expression, tests};
-use crate::fault::Fault;
 use crate::imports::{from, import};
 use crate::reader::{TEST, TESTS};
 use crate::request::Request;
-use crate::tall::{HEIGHT_LIMIT, Tall};
+use crate::tall::HEIGHT_LIMIT;
 use crate::target::{TargetPlace, target, targets};
 use py_base::{Bytes, Construct, split};
+use py_grammar::{Fault, Tall};
 use py_tokens::{Token, TokenKind, keyword, operator};
 use py_tree::{Expr, Stmt};
 use sqlite_items::Items;
 use std::alloc::Global;
 
 /// An expression of this level, where one comes, or what is left out in its place.
-#[tactic(auto, unfolding(crate::specs::inner::Lines::maybe_at))]
+#[tactic(auto, unfolding(py_grammar::specs::inner::Lines::maybe_at))]
 pub fn maybe<'a>(
     alloc: Global,
     turns: usize,
@@ -41,7 +41,7 @@ pub fn maybe<'a>(
 }
 
 /// Further names of `global` after the first, each after a comma.
-#[tactic(auto, unfolding(crate::specs::inner::Lines::names_at))]
+#[tactic(auto, unfolding(py_grammar::specs::inner::Lines::names_at))]
 fn names<'a>(
     alloc: Global,
     turns: usize,
@@ -65,7 +65,7 @@ fn names<'a>(
 }
 
 /// After `print`.
-#[tactic(auto, unfolding(crate::specs::inner::Lines::print_at))]
+#[tactic(auto, unfolding(py_grammar::specs::inner::Lines::print_at))]
 fn print<'a>(
     alloc: Global,
     turns: usize,
@@ -113,7 +113,7 @@ fn return_value<'a>(
 }
 
 /// After `raise` and a test.
-#[tactic(auto, unfolding(crate::specs::inner::Lines::raise_at))]
+#[tactic(auto, unfolding(py_grammar::specs::inner::Lines::raise_at))]
 fn raise_more<'a>(
     alloc: Global,
     turns: usize,
@@ -179,7 +179,7 @@ fn global<'a>(alloc: Global, turns: usize, line: u32, tokens: &'a [Token]) -> Re
 }
 
 /// After `assert` and a test.
-#[tactic(auto, unfolding(crate::specs::inner::Lines::assert_at))]
+#[tactic(auto, unfolding(py_grammar::specs::inner::Lines::assert_at))]
 fn assert_more<'a>(
     alloc: Global,
     turns: usize,
@@ -250,7 +250,7 @@ fn worded<'a>(
 }
 
 /// A simple statement of a height of at most `budget`.
-#[tactic(auto, unfolding(crate::specs::inner::Lines::simple_at))]
+#[tactic(auto, unfolding(py_grammar::specs::inner::Lines::simple_at))]
 pub fn simple<'a>(alloc: Global, turns: usize, budget: usize, tokens: &'a [Token]) -> Read<'a, Stmt>
     requires small { budget ≤ HEIGHT_LIMIT }
     requires above { 0 < budget }

@@ -1,15 +1,15 @@
 //! Statements with their blocks, and modules: the statements of a block have a budget two less than the statement
 //! around it.
 ghost use Rattle.std.specs.Prelude.{◌≡◌, ◌+◌, ◌-◌, ◌<◌, ◌≤◌, [], length};
-ghost use Rattle.py_parser.specs.inner.Lines.{statement_at, statements_at, body_more, module_at};
+ghost use Rattle.py_grammar.specs.inner.Lines.{statement_at, statements_at, body_more, module_at};
 ghost use Rattle.py_parser.specs.inner.Outcome.{Gives};
 ghost use Rattle.py_parser.specs.inner.Suites.{AnswersStatements, parts_of};
 
 use crate::compound::Compound;
 use crate::cursor::{Read, end_next, newline_next, refused, rest};
 use crate::error::ParseError;
-use crate::fault::Fault;
 use crate::tall::HEIGHT_LIMIT;
+use py_grammar::Fault;
 use py_tokens::Token;
 use py_tree::{Module, Stmt};
 use sqlite_items::Items;
@@ -68,7 +68,7 @@ fn statement<'a>(
 }
 
 /// The statements of a module, up to its end.
-#[tactic(auto, unfolding(crate::specs::inner::Lines::body_more))]
+#[tactic(auto, unfolding(py_grammar::specs::inner::Lines::body_more))]
 fn body<'a>(alloc: Global, turns: usize, tokens: &'a [Token]) -> Read<'a, Items<Stmt>>
     ensures { Gives (λ x. (x.0, x.1.now)) result (body_more (statements_at turns 99) turns [] tokens.now) }
 {
@@ -90,7 +90,7 @@ fn body<'a>(alloc: Global, turns: usize, tokens: &'a [Token]) -> Read<'a, Items<
 }
 
 /// A module.
-#[tactic(auto, unfolding(crate::specs::inner::Lines::module_at))]
+#[tactic(auto, unfolding(py_grammar::specs::inner::Lines::module_at))]
 pub fn module<'a>(alloc: Global, tokens: &'a [Token]) -> Read<'a, Module>
     ensures { Gives (λ x. (x.0, x.1.now)) result (module_at (length tokens.now) tokens.now) }
 {

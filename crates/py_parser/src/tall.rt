@@ -2,25 +2,17 @@
 ghost use Rattle.std.specs.Prelude.{◌≡◌, IfOk, OnOk};
 ghost use Rattle.py_tree.specs.declared.form.Form.TheVariants.{Plain};
 ghost use Rattle.py_tree.specs.Form.{is_target, is_single};
-ghost use Rattle.py_parser.specs.inner.Reading.{is_bare};
-ghost use Rattle.py_parser.specs.inner.Tall.{joined, plain, none, start, push, push_link, push_pair, push_named, push_trailer};
+ghost use Rattle.py_grammar.specs.inner.Reading.{is_bare};
+ghost use Rattle.py_grammar.specs.inner.Tall.{joined, plain, none, start, push, push_link, push_pair, push_named, push_trailer};
 
 use py_base::{Bytes, NoMemory};
+use py_grammar::Tall;
 use py_tree::{Expr, Form, Link, Named, Operator, Pair, Trailer};
 use sqlite_items::Items;
 use std::alloc::Global;
 
 /// The greatest height of a module.
 pub const HEIGHT_LIMIT: usize = 100;
-
-/// A tree, or a list of parts, with its height and what it is as a target. The height of a list is that of its highest
-/// part, and 0 for none.
-#[derive(Debug, Drop)]
-pub struct Tall<T> {
-    pub tree: T,
-    pub tall: usize,
-    pub form: Form,
-}
 
 /// Whether it is a target, where slices count as targets or where they don't.
 pub fn is_target(slices: bool, form: Form) -> bool

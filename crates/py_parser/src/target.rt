@@ -1,18 +1,18 @@
 //! Targets.
 ghost use Rattle.std.specs.Prelude.{◌≡◌, ◌≤◌, IfOk};
 ghost use Rattle.py_parser.specs.inner.Outcome.{Gives};
-ghost use Rattle.py_parser.specs.inner.Aiming.{readers};
-ghost use Rattle.py_parser.specs.inner.Reading.{first};
-ghost use Rattle.py_parser.specs.inner.Lines.{checked, target_at, targets_at};
+ghost use Rattle.py_grammar.specs.inner.Aiming.{readers};
+ghost use Rattle.py_grammar.specs.inner.Reading.{first};
+ghost use Rattle.py_grammar.specs.inner.Lines.{checked, target_at, targets_at};
 ghost use Rattle.py_parser.specs.inner.Stops.{stop_of};
-ghost use Rattle.py_parser.specs.inner.Tall.{start};
+ghost use Rattle.py_grammar.specs.inner.Tall.{start};
 
 use crate::aiming::aim;
 use crate::cursor::{Read, keyword_next, newline_next, op_next, refused, rest};
 use crate::error::ParseError;
-use crate::fault::Fault;
-use crate::tall::{HEIGHT_LIMIT, Tall, is_target, push, start};
+use crate::tall::{HEIGHT_LIMIT, is_target, push, start};
 use py_base::Construct;
+use py_grammar::{Fault, Tall};
 use py_tokens::{Token, keyword, operator};
 use py_tree::Expr;
 use sqlite_items::Items;
@@ -49,7 +49,7 @@ fn follows(place: TargetPlace, tokens: &[Token]) -> bool
 
 /// Refuses what is no target: an expression that was read, with the tokens after it. A slice is left out where these
 /// may follow a target; all else is unexpected.
-#[tactic(auto, unfolding(crate::specs::inner::Lines::checked))]
+#[tactic(auto, unfolding(py_grammar::specs::inner::Lines::checked))]
 pub fn check_target(
     place: TargetPlace,
     target: &Tall<Expr>,
@@ -84,7 +84,7 @@ pub fn target<'a>(
 }
 
 /// Further targets of `del` after the first, each after a comma.
-#[tactic(auto, unfolding(crate::specs::inner::Lines::targets_at))]
+#[tactic(auto, unfolding(py_grammar::specs::inner::Lines::targets_at))]
 pub fn targets<'a>(
     alloc: Global,
     turns: usize,

@@ -4,18 +4,18 @@ ghost use Rattle.py_tokens.specs.declared.operator.TheConstants as operator;
 ghost use Rattle.py_tree.specs.declared.form.Form.TheVariants.{Plain};
 ghost use Rattle.py_parser.specs.inner.Asking.{Answers};
 ghost use Rattle.py_parser.specs.inner.Outcome.{Gives};
-ghost use Rattle.py_parser.specs.inner.Reading.{reads, first, is_op, is_none, name_of, keyed, named_at, args_at, slice_close, slice_at, index_close, subscript_at, call_at, trails, trailer_at, trailers_at, trail_at};
+ghost use Rattle.py_grammar.specs.inner.Reading.{reads, first, is_op, is_none, name_of, keyed, named_at, args_at, slice_close, slice_at, index_close, subscript_at, call_at, trails, trailer_at, trailers_at, trail_at};
 ghost use Rattle.py_parser.specs.inner.Pieces.{keywords_at};
-ghost use Rattle.py_parser.specs.inner.Tall.{none, plain, push_named, tall_or};
+ghost use Rattle.py_grammar.specs.inner.Tall.{none, plain, push_named, tall_or};
 
 use crate::cursor::{Read, comes, keyword_next, op_next, refused, rest, take_name, take_op};
 use crate::error::ParseError;
-use crate::fault::Fault;
 use crate::node;
 use crate::reader::{Reader, TEST};
 use crate::request::Request;
-use crate::tall::{HEIGHT_LIMIT, Tall, is_bare, no_tests, plain, push, push_named, push_trailer};
+use crate::tall::{HEIGHT_LIMIT, is_bare, no_tests, plain, push, push_named, push_trailer};
 use py_base::{Bytes, Construct, NoMemory, split};
+use py_grammar::{Fault, Tall};
 use py_tokens::{Token, TokenKind, keyword, operator};
 use py_tree::{Expr, Form, Named, Trailer};
 use sqlite_items::Items;
@@ -88,7 +88,7 @@ impl<F: for<'b> Fn(Request, &'b [Token]) -> Result<(Tall<Expr>, &'b [Token]), Pa
     F,
 > {
     /// Arguments by keyword after the first, each after a comma, which may also trail; at most so many.
-    #[tactic(auto, unfolding(crate::specs::inner::Reading::named_at))]
+    #[tactic(auto, unfolding(py_grammar::specs::inner::Reading::named_at))]
     fn named<'a>(
         &self,
         most: usize,
@@ -149,7 +149,7 @@ impl<F: for<'b> Fn(Request, &'b [Token]) -> Result<(Tall<Expr>, &'b [Token]), Pa
     }
 
     /// One argument or more.
-    #[tactic(auto, unfolding(crate::specs::inner::Reading::args_at))]
+    #[tactic(auto, unfolding(py_grammar::specs::inner::Reading::args_at))]
     fn arguments<'a>(&self, tokens: &'a [Token]) -> Read<'a, Tall<Trailer>>
         requires calls { F.IsAlwaysCallable self.now.inner }
         requires answers { Answers (F.post self.now.inner) self.now.turns self.now.budget }
@@ -183,7 +183,7 @@ impl<F: for<'b> Fn(Request, &'b [Token]) -> Result<(Tall<Expr>, &'b [Token]), Pa
     }
 
     /// After the first colon of a slice.
-    #[tactic(auto, unfolding(crate::specs::inner::Reading::slice_at))]
+    #[tactic(auto, unfolding(py_grammar::specs::inner::Reading::slice_at))]
     fn slice<'a>(&self, from: Option<Tall<Expr>>, tokens: &'a [Token]) -> Read<'a, Tall<Trailer>>
         requires calls { F.IsAlwaysCallable self.now.inner }
         requires answers { Answers (F.post self.now.inner) self.now.turns self.now.budget }
@@ -217,7 +217,7 @@ impl<F: for<'b> Fn(Request, &'b [Token]) -> Result<(Tall<Expr>, &'b [Token]), Pa
     }
 
     /// After `[`.
-    #[tactic(auto, unfolding(crate::specs::inner::Reading::subscript_at))]
+    #[tactic(auto, unfolding(py_grammar::specs::inner::Reading::subscript_at))]
     fn subscript<'a>(&self, tokens: &'a [Token]) -> Read<'a, Tall<Trailer>>
         requires calls { F.IsAlwaysCallable self.now.inner }
         requires answers { Answers (F.post self.now.inner) self.now.turns self.now.budget }
@@ -233,7 +233,7 @@ impl<F: for<'b> Fn(Request, &'b [Token]) -> Result<(Tall<Expr>, &'b [Token]), Pa
     }
 
     /// After `(`.
-    #[tactic(auto, unfolding(crate::specs::inner::Reading::call_at))]
+    #[tactic(auto, unfolding(py_grammar::specs::inner::Reading::call_at))]
     fn call<'a>(&self, tokens: &'a [Token]) -> Read<'a, Tall<Trailer>>
         requires calls { F.IsAlwaysCallable self.now.inner }
         requires answers { Answers (F.post self.now.inner) self.now.turns self.now.budget }
@@ -251,7 +251,7 @@ impl<F: for<'b> Fn(Request, &'b [Token]) -> Result<(Tall<Expr>, &'b [Token]), Pa
     }
 
     /// A trailer.
-    #[tactic(auto, unfolding(crate::specs::inner::Reading::trailer_at))]
+    #[tactic(auto, unfolding(py_grammar::specs::inner::Reading::trailer_at))]
     fn trailer<'a>(&self, tokens: &'a [Token]) -> Read<'a, Tall<Trailer>>
         requires calls { F.IsAlwaysCallable self.now.inner }
         requires answers { Answers (F.post self.now.inner) self.now.turns self.now.budget }
@@ -270,7 +270,7 @@ impl<F: for<'b> Fn(Request, &'b [Token]) -> Result<(Tall<Expr>, &'b [Token]), Pa
     }
 
     /// Trailers, as many as come.
-    #[tactic(auto, unfolding(crate::specs::inner::Reading::trailers_at))]
+    #[tactic(auto, unfolding(py_grammar::specs::inner::Reading::trailers_at))]
     fn trailers<'a>(&self, tokens: &'a [Token]) -> Read<'a, Tall<Items<Trailer>>>
         requires calls { F.IsAlwaysCallable self.now.inner }
         requires answers { Answers (F.post self.now.inner) self.now.turns self.now.budget }
@@ -292,7 +292,7 @@ impl<F: for<'b> Fn(Request, &'b [Token]) -> Result<(Tall<Expr>, &'b [Token]), Pa
     }
 
     /// After an atom.
-    #[tactic(auto, unfolding(crate::specs::inner::Reading::trail_at))]
+    #[tactic(auto, unfolding(py_grammar::specs::inner::Reading::trail_at))]
     pub fn trail<'a>(&self, atom: Tall<Expr>, tokens: &'a [Token]) -> Read<'a, Tall<Expr>>
         requires calls { F.IsAlwaysCallable self.now.inner }
         requires answers { Answers (F.post self.now.inner) self.now.turns self.now.budget }

@@ -6,9 +6,9 @@ use Rattle.py_tokens.specs.declared.token.Token.{Token}
 use Rattle.py_tokens.specs.Layout.{Laid, tokens_of_text}
 use Rattle.py_tree.specs.declared.stmt.Module.{Module}
 use Rattle.py_tree.specs.Tall.{tall_module}
-use Rattle.py_parser.specs.declared.fault.Fault.{Fault}
-use Rattle.py_parser.specs.Refused.{refusal_of, RefusedAt, EndsOnce}
-use Rattle.py_parser.specs.Statements.{IsModule}
+use Rattle.py_grammar.specs.declared.fault.Fault.{Fault}
+use Rattle.py_grammar.specs.Refused.{refusal_of, RefusedAt, EndsOnce}
+use Rattle.py_grammar.specs.Statements.{IsModule}
 use Rattle.py_names.specs.declared.event.Event.{Event}
 use Rattle.py_names.specs.declared.scope.Scope.{Scope}
 use Rattle.py_names.specs.Outline.{outline}

@@ -5,8 +5,8 @@ use Rattle.py_base.specs.declared.refusal.Refusal.TheVariants.{TooLarge}
 use Rattle.py_tokens.specs.declared.token.Token.{Token}
 use Rattle.py_tokens.specs.Layout.{tokens_of_text}
 use Rattle.py_tree.specs.declared.stmt.Module.{Module}
-use Rattle.py_parser.specs.declared.fault.Fault.{Fault}
-use Rattle.py_parser.specs.Refused.{refusal_of, RefusedAt}
+use Rattle.py_grammar.specs.declared.fault.Fault.{Fault}
+use Rattle.py_grammar.specs.Refused.{refusal_of, RefusedAt}
 use Rattle.front_laws.specs.Trees.{IsTree}
 use Rattle.py_names.specs.Outline.{outline}
 use Rattle.py_names.specs.declared.scope.Scope.{Scope}

@@ -1,6 +1,7 @@
 //! What tests of texts share: a row's text, and its tree.
 use py_data::NoMemory;
-use py_parser::{ends_law, parse};
+use py_grammar::ends_law;
+use py_parser::parse;
 use py_tokens::tokens;
 use py_tree::Module;
 use std::alloc::Global;

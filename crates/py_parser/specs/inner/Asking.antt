@@ -1,5 +1,5 @@
 -- The mirror of the code: nothing public rests on it.
--- What a reader of expressions is asked for, and that its answers are those of reading.
+-- What readers of expressions and of targets are asked for, and that their answers are those of reading.
 use Rattle.std.specs.Prelude.{ℕ, ◌≤◌, max, List, Result, IfOk}
 use Rattle.std.specs.Borrow.{Bor}
 use Rattle.py_tokens.specs.declared.token.Token.{Token}
@@ -7,9 +7,10 @@ use Rattle.py_tree.specs.declared.expr.Expr.{Expr}
 use Rattle.py_parser.specs.declared.error.ParseError.{ParseError}
 use Rattle.py_parser.specs.declared.request.Request.{Request}
 use Rattle.py_parser.specs.declared.request.Request.TheVariants.{Level, After}
-use Rattle.py_parser.specs.declared.tall.Tall.{Tall}
+use Rattle.py_grammar.specs.declared.tall.Tall.{Tall}
+use Rattle.py_grammar.specs.inner.Aiming.{aim_at}
 use Rattle.py_parser.specs.inner.Outcome.{Gives}
-use Rattle.py_parser.specs.inner.Reading.{Below, Test, reads}
+use Rattle.py_grammar.specs.inner.Reading.{Below, Test, reads}
 
 abbrev pub requested : Below → Request → Test
 requested below (Level n) = below.read n
@@ -29,3 +30,12 @@ abbrev pub Answers : Replies → ℕ → ℕ → Type 0
 Answers replies g d = (q : Request) (ts : Bor (List Token)) (r : Result (Tall Expr × Bor (List Token)) ParseError) →
     replies q ts r → Gives (λ x. (x.0, x.1.now)) r (requested (reads g d) q ts.now) × IfOk r
     (λ x. x.0.tall ≤ max d (held q))
+
+-- what a reader of targets may answer
+abbrev pub TargetReplies : Type 1
+TargetReplies = Bor (List Token) → Result (Tall Expr × Bor (List Token)) ParseError → Type 0
+
+-- each answer is what reading gives with this budget, and is at most as high
+abbrev pub AnswersAim : TargetReplies → ℕ → ℕ → Type 0
+AnswersAim replies g d = (ts : Bor (List Token)) (r : Result (Tall Expr × Bor (List Token)) ParseError) →
+    replies ts r → Gives (λ x. (x.0, x.1.now)) r (aim_at g d ts.now) × IfOk r (λ x. x.0.tall ≤ d)

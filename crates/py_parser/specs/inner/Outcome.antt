@@ -4,11 +4,11 @@ use Rattle.std.specs.Prelude.{◌≡◌, ℕ, List, Result, Ok, Err}
 use Rattle.py_tokens.specs.declared.token.Token.{Token}
 use Rattle.py_parser.specs.declared.error.ParseError.{ParseError}
 use Rattle.py_parser.specs.declared.error.ParseError.TheVariants.{Refused, OutOfMemory}
-use Rattle.py_parser.specs.declared.fault.Fault.{Fault}
+use Rattle.py_grammar.specs.declared.fault.Fault.{Fault}
 use Rattle.py_tree.specs.declared.stmt.Module.{Module}
-use Rattle.py_parser.specs.Words.{line_of}
-use Rattle.py_parser.specs.Refused.{refusal_of}
-use Rattle.py_parser.specs.inner.Reading.{Reads}
+use Rattle.py_grammar.specs.Words.{line_of}
+use Rattle.py_grammar.specs.Refused.{refusal_of}
+use Rattle.py_grammar.specs.inner.Reading.{Reads}
 
 -- what reading stopped for, with the line of the token at which it stopped; want of memory is free
 abbrev pub Fails : {A : Type 0} → ParseError → Reads A → Type 0

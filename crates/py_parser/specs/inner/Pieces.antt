@@ -7,11 +7,11 @@ use Rattle.py_tree.specs.declared.expr.Sign.{Sign}
 use Rattle.py_tokens.specs.declared.token.TokenKind.{TokenKind}
 use Rattle.py_parser.specs.declared.request.Request.{Request}
 use Rattle.py_parser.specs.declared.request.Request.TheVariants.{Level, After}
-use Rattle.py_parser.specs.declared.fault.Fault.{Fault}
-use Rattle.py_parser.specs.declared.fault.Fault.TheVariants.{Deep}
-use Rattle.py_parser.specs.declared.tall.Tall.{Tall}
-use Rattle.py_parser.specs.inner.Tall.{plain, push_named, of_call, of_sign, of_not}
-use Rattle.py_parser.specs.inner.Reading.{Below, Reader, Test, ◌>>=◌, rest, named_at, too_deep}
+use Rattle.py_grammar.specs.declared.fault.Fault.{Fault}
+use Rattle.py_grammar.specs.declared.fault.Fault.TheVariants.{Deep}
+use Rattle.py_grammar.specs.declared.tall.Tall.{Tall}
+use Rattle.py_grammar.specs.inner.Tall.{plain, push_named, of_call, of_sign, of_not}
+use Rattle.py_grammar.specs.inner.Reading.{Below, Reader, Test, ◌>>=◌, rest, named_at, too_deep}
 
 -- arguments by keyword, after the first of these names and `=`
 abbrev pub keywords_at : Test → ℕ → Tall (List Expr) → List ℕ → Reader (Tall Trailer)

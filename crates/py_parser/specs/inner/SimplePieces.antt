@@ -5,11 +5,11 @@ use Rattle.py_tree.specs.declared.stmt.Stmt.{Stmt}
 use Rattle.py_tree.specs.declared.stmt.Stmt.TheVariants as s
 use Rattle.py_parser.specs.declared.imports.Importable.{Importable}
 use Rattle.py_parser.specs.declared.imports.Importable.TheVariants.{Module, Member}
-use Rattle.py_parser.specs.inner.Tall.{start, tree_or}
-use Rattle.py_parser.specs.Words.{is_module, is_member}
-use Rattle.py_parser.specs.inner.Reading.{Reader, ◌>>=◌, first, comes, name_at}
-use Rattle.py_parser.specs.inner.Aiming.{Readers}
-use Rattle.py_parser.specs.inner.Lines.{ends_del, maybe_at, target_at, targets_at, names_at, imported_at, imports_at, raise_at, assert_at}
+use Rattle.py_grammar.specs.inner.Tall.{start, tree_or}
+use Rattle.py_grammar.specs.Words.{is_module, is_member}
+use Rattle.py_grammar.specs.inner.Reading.{Reader, ◌>>=◌, first, comes, name_at}
+use Rattle.py_grammar.specs.inner.Aiming.{Readers}
+use Rattle.py_grammar.specs.inner.Lines.{ends_del, maybe_at, target_at, targets_at, names_at, imported_at, imports_at, raise_at, assert_at}
 
 -- whether this name may come where an import asks for a module, or for a member of this module
 abbrev pub may_import : Importable → List ℕ → Bool

@@ -2,8 +2,8 @@
 -- What may follow a target, by where it stands.
 use Rattle.py_parser.specs.declared.target.TargetPlace.{TargetPlace}
 use Rattle.py_parser.specs.declared.target.TargetPlace.TheVariants.{Del, For, Except, Assign}
-use Rattle.py_parser.specs.inner.Reading.{is_op}
-use Rattle.py_parser.specs.inner.Lines.{Stop, ends_del, ends_loop, ends_caught}
+use Rattle.py_grammar.specs.inner.Reading.{is_op}
+use Rattle.py_grammar.specs.inner.Lines.{Stop, ends_del, ends_loop, ends_caught}
 
 abbrev pub stop_of : TargetPlace → Stop
 stop_of Del = ends_del

@@ -8,12 +8,12 @@ use Rattle.py_tree.specs.declared.stmt.Param.{Param}
 use Rattle.py_tree.specs.declared.stmt.Stmt.{Stmt}
 use Rattle.py_tree.specs.declared.stmt.Stmt.TheVariants as s
 use Rattle.py_parser.specs.declared.error.ParseError.{ParseError}
-use Rattle.py_parser.specs.declared.fault.Fault.TheVariants.{Deep}
-use Rattle.py_parser.specs.inner.Lines.{Suite, Parts, block_at, line_of_at, statements_at, params_at, arm_at, elifs_at, clause_at, loop_at, body_at, try_at, compound_at}
+use Rattle.py_grammar.specs.declared.fault.Fault.TheVariants.{Deep}
+use Rattle.py_grammar.specs.inner.Lines.{Suite, Parts, block_at, line_of_at, statements_at, params_at, arm_at, elifs_at, clause_at, loop_at, body_at, try_at, compound_at}
 use Rattle.py_parser.specs.inner.Outcome.{Gives}
-use Rattle.py_parser.specs.inner.Reading.{Reader, ◌>>=◌, first, rest, is_op, keyword_at}
-use Rattle.py_parser.specs.inner.Aiming.{Readers, readers}
-use Rattle.py_parser.specs.Words.{line_of}
+use Rattle.py_grammar.specs.inner.Reading.{Reader, ◌>>=◌, first, rest, is_op, keyword_at}
+use Rattle.py_grammar.specs.inner.Aiming.{Readers, readers}
+use Rattle.py_grammar.specs.Words.{line_of}
 
 -- the block of a statement whose expressions have this budget
 abbrev pub inner_block : ℕ → ℕ → Suite

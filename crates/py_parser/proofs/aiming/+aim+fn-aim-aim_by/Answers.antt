@@ -1,6 +1,6 @@
 use Rattle.std.proofs.Common.{arith}
 use Rattle.std.proofs.lemmas.Grind.{common_steps}
-use Rattle.py_parser.proofs.AimUnfold.{aim_none_at}
+use Rattle.py_grammar.proofs.AimUnfold.{aim_none_at}
 use Rattle.py_parser.proofs.aiming.+aim+fn-aim-aim_by.Goals as goal
 
 pub returns-then-starts-clause-value : goal.returns-then-starts-clause-value

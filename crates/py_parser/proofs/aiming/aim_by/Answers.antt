@@ -1,6 +1,6 @@
 use Rattle.std.proofs.Common.{arith}
 use Rattle.std.proofs.lemmas.Grind.{common_steps}
-use Rattle.py_parser.proofs.AimUnfold.{aim_up}
+use Rattle.py_grammar.proofs.AimUnfold.{aim_up}
 use Rattle.py_parser.proofs.aiming.aim_by.Goals as goal
 
 pub returns-clause-value : goal.returns-clause-value

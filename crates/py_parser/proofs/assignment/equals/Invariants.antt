@@ -1,6 +1,6 @@
 use Rattle.std.proofs.Common.{◌≡◌, ◌-◌, []}
-use Rattle.py_parser.specs.inner.Lines.{equals_at}
-use Rattle.py_parser.specs.inner.Aiming.{readers}
+use Rattle.py_grammar.specs.inner.Lines.{equals_at}
+use Rattle.py_grammar.specs.inner.Aiming.{readers}
 use Rattle.py_parser.proofs.assignment.equals.Given as goal
 
 abbrev pub invariant-turns : goal.invariant-turns

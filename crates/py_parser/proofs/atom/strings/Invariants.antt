@@ -1,5 +1,5 @@
 use Rattle.std.proofs.Common.{◌≡◌, ◌-◌}
-use Rattle.py_parser.specs.inner.Reading.{strings_at}
+use Rattle.py_grammar.specs.inner.Reading.{strings_at}
 use Rattle.py_parser.proofs.atom.strings.Given as goal
 
 abbrev pub invariant-turns : goal.invariant-turns

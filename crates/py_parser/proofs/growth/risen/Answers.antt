@@ -1,6 +1,6 @@
 use Rattle.std.proofs.Common.{arith}
 use Rattle.std.proofs.lemmas.Grind.{common_steps}
-use Rattle.py_parser.proofs.AimUnfold.{risen_cases}
+use Rattle.py_grammar.proofs.AimUnfold.{risen_cases}
 use Rattle.py_parser.proofs.growth.risen.Goals as goal
 
 pub returns-then-grows-clause-value : goal.returns-then-grows-clause-value

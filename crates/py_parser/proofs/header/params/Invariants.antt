@@ -1,6 +1,6 @@
 use Rattle.std.proofs.Common.{◌≡◌, ◌-◌, [], false}
-use Rattle.py_parser.specs.inner.Lines.{params_at}
-use Rattle.py_parser.specs.inner.Aiming.{readers}
+use Rattle.py_grammar.specs.inner.Lines.{params_at}
+use Rattle.py_grammar.specs.inner.Aiming.{readers}
 use Rattle.py_parser.proofs.header.params.Given as goal
 
 abbrev pub invariant-turns : goal.invariant-turns

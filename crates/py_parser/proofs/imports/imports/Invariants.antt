@@ -1,5 +1,5 @@
 use Rattle.std.proofs.Common.{◌≡◌, ◌-◌, [], ◌∷◌}
-use Rattle.py_parser.specs.inner.Lines.{imports_at}
+use Rattle.py_grammar.specs.inner.Lines.{imports_at}
 use Rattle.py_parser.specs.inner.SimplePieces.{may_import}
 use Rattle.py_parser.proofs.imports.imports.Given as goal
 

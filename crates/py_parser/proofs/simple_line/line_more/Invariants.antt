@@ -1,6 +1,6 @@
 use Rattle.std.proofs.Common.{◌≡◌, ◌-◌, [], ◌∷◌}
-use Rattle.py_parser.specs.inner.Lines.{simple_at, line_more}
-use Rattle.py_parser.specs.inner.Aiming.{readers}
+use Rattle.py_grammar.specs.inner.Lines.{simple_at, line_more}
+use Rattle.py_grammar.specs.inner.Aiming.{readers}
 use Rattle.py_parser.proofs.simple_line.line_more.Given as goal
 
 abbrev pub invariant-turns : goal.invariant-turns

@@ -1,6 +1,6 @@
 use Rattle.std.proofs.Common.{arith}
 use Rattle.std.proofs.lemmas.Grind.{common_steps}
-use Rattle.py_parser.specs.inner.Lines.{names_at}
+use Rattle.py_grammar.specs.inner.Lines.{names_at}
 use Rattle.py_parser.proofs.Turns.{one_more}
 use Rattle.py_parser.proofs.statement.names.Goals as goal
 

@@ -1,5 +1,5 @@
 use Rattle.std.proofs.Common.{◌≡◌, ◌-◌, [], ◌∷◌}
-use Rattle.py_parser.specs.inner.Lines.{names_at}
+use Rattle.py_grammar.specs.inner.Lines.{names_at}
 use Rattle.py_parser.proofs.statement.names.Given as goal
 
 abbrev pub invariant-turns : goal.invariant-turns

@@ -1,5 +1,5 @@
 use Rattle.std.proofs.Common.{◌≡◌, ◌-◌, []}
-use Rattle.py_parser.specs.inner.Lines.{body_more, statements_at}
+use Rattle.py_grammar.specs.inner.Lines.{body_more, statements_at}
 use Rattle.py_parser.proofs.suite.body.Given as goal
 
 abbrev pub invariant-turns : goal.invariant-turns

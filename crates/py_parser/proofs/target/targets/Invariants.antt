@@ -1,7 +1,7 @@
 use Rattle.std.proofs.Common.{◌≡◌, ◌-◌}
-use Rattle.py_parser.specs.inner.Lines.{targets_at}
-use Rattle.py_parser.specs.inner.Aiming.{readers}
-use Rattle.py_parser.specs.inner.Tall.{start}
+use Rattle.py_grammar.specs.inner.Lines.{targets_at}
+use Rattle.py_grammar.specs.inner.Aiming.{readers}
+use Rattle.py_grammar.specs.inner.Tall.{start}
 use Rattle.py_parser.proofs.target.targets.Given as goal
 
 abbrev pub invariant-turns : goal.invariant-turns

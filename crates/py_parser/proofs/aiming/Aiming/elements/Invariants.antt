@@ -1,6 +1,6 @@
 use Rattle.std.proofs.Common.{◌≡◌, ◌-◌, ◌≤◌}
-use Rattle.py_parser.specs.inner.Aiming.{aim_at, elements_at}
-use Rattle.py_parser.specs.inner.Tall.{start}
+use Rattle.py_grammar.specs.inner.Aiming.{aim_at, elements_at}
+use Rattle.py_grammar.specs.inner.Tall.{start}
 use Rattle.py_parser.proofs.aiming.Aiming.elements.Given as goal
 
 abbrev pub invariant-turns : goal.invariant-turns

@@ -1,6 +1,6 @@
 use Rattle.std.proofs.Common.{◌≡◌, ◌-◌, [], ◌∷◌}
-use Rattle.py_parser.specs.inner.Lines.{elifs_at}
-use Rattle.py_parser.specs.inner.Aiming.{readers}
+use Rattle.py_grammar.specs.inner.Lines.{elifs_at}
+use Rattle.py_grammar.specs.inner.Aiming.{readers}
 use Rattle.py_parser.specs.inner.Suites.{inner_block}
 use Rattle.py_parser.proofs.compound.Compound.elifs.Given as goal
 

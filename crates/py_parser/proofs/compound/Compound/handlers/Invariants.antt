@@ -1,6 +1,6 @@
 use Rattle.std.proofs.Common.{◌≡◌, ◌-◌, []}
-use Rattle.py_parser.specs.inner.Lines.{handlers_at}
-use Rattle.py_parser.specs.inner.Aiming.{readers}
+use Rattle.py_grammar.specs.inner.Lines.{handlers_at}
+use Rattle.py_grammar.specs.inner.Aiming.{readers}
 use Rattle.py_parser.specs.inner.Suites.{inner_block}
 use Rattle.py_parser.proofs.compound.Compound.handlers.Given as goal
 

@@ -1,5 +1,5 @@
 use Rattle.std.proofs.Common.{◌≡◌, ◌-◌, []}
-use Rattle.py_parser.specs.inner.Lines.{suite_at, statements_at}
+use Rattle.py_grammar.specs.inner.Lines.{suite_at, statements_at}
 use Rattle.py_parser.proofs.compound.Compound.suite.Given as goal
 
 abbrev pub invariant-turns : goal.invariant-turns

@@ -1,7 +1,7 @@
 use Rattle.std.proofs.Common.{◌+◌, arith}
 use Rattle.std.proofs.lemmas.Grind.{common_steps}
-use Rattle.py_parser.specs.inner.Reading.{reads}
-use Rattle.py_parser.proofs.AimUnfold.{grown_up}
+use Rattle.py_grammar.specs.inner.Reading.{reads}
+use Rattle.py_grammar.proofs.AimUnfold.{grown_up}
 use Rattle.py_parser.proofs.reader.Reader.+grown.Goals as goal
 
 pub returns-clause-value : goal.returns-clause-value

@@ -1,6 +1,6 @@
 use Rattle.std.proofs.Common.{◌+◌, arith}
 use Rattle.std.proofs.lemmas.Grind.{common_steps}
-use Rattle.py_parser.specs.inner.Reading.{reads}
+use Rattle.py_grammar.specs.inner.Reading.{reads}
 use Rattle.py_parser.proofs.Unfold.{level_up}
 use Rattle.py_parser.proofs.reader.Reader.+level.Goals as goal
 

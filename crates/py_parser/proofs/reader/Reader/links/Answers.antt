@@ -1,7 +1,7 @@
 use Rattle.std.proofs.Common.{arith}
 use Rattle.std.proofs.lemmas.Grind.{common_steps}
-use Rattle.py_parser.specs.Words.{below}
-use Rattle.py_parser.specs.inner.Reading.{reads, links_at}
+use Rattle.py_grammar.specs.Words.{below}
+use Rattle.py_grammar.specs.inner.Reading.{reads, links_at}
 use Rattle.py_parser.proofs.Turns.{one_more}
 use Rattle.py_parser.proofs.reader.Reader.links.Goals as goal
 

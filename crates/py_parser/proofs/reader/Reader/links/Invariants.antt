@@ -1,8 +1,8 @@
 use Rattle.std.proofs.Common.{◌≡◌, ◌-◌, ◌≤◌, []}
 use Rattle.py_tree.specs.declared.form.Form.TheVariants.{Plain}
-use Rattle.py_parser.specs.inner.Reading.{reads, links_at}
-use Rattle.py_parser.specs.inner.Tall.{plain}
-use Rattle.py_parser.specs.Words.{below}
+use Rattle.py_grammar.specs.inner.Reading.{reads, links_at}
+use Rattle.py_grammar.specs.inner.Tall.{plain}
+use Rattle.py_grammar.specs.Words.{below}
 use Rattle.py_parser.proofs.reader.Reader.links.Given as goal
 
 abbrev pub invariant-turns : goal.invariant-turns

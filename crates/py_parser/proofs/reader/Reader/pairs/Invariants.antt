@@ -1,7 +1,7 @@
 use Rattle.std.proofs.Common.{◌≡◌, ◌-◌, ◌≤◌, []}
 use Rattle.py_tree.specs.declared.form.Form.TheVariants.{Plain}
-use Rattle.py_parser.specs.inner.Reading.{reads, pairs_at}
-use Rattle.py_parser.specs.inner.Tall.{plain, push_pair}
+use Rattle.py_grammar.specs.inner.Reading.{reads, pairs_at}
+use Rattle.py_grammar.specs.inner.Tall.{plain, push_pair}
 use Rattle.py_parser.proofs.reader.Reader.pairs.Given as goal
 
 abbrev pub invariant-turns : goal.invariant-turns

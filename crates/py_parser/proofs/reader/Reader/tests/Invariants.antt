@@ -1,6 +1,6 @@
 use Rattle.std.proofs.Common.{◌≡◌, ◌-◌, ◌≤◌}
-use Rattle.py_parser.specs.inner.Reading.{reads, tests_at}
-use Rattle.py_parser.specs.inner.Tall.{start}
+use Rattle.py_grammar.specs.inner.Reading.{reads, tests_at}
+use Rattle.py_grammar.specs.inner.Tall.{start}
 use Rattle.py_parser.proofs.reader.Reader.tests.Given as goal
 
 abbrev pub invariant-turns : goal.invariant-turns

@@ -1,6 +1,6 @@
 use Rattle.std.proofs.Common.{arith}
 use Rattle.std.proofs.lemmas.Grind.{common_steps}
-use Rattle.py_parser.specs.inner.Reading.{reads, trailers_at}
+use Rattle.py_grammar.specs.inner.Reading.{reads, trailers_at}
 use Rattle.py_parser.proofs.Turns.{one_more}
 use Rattle.py_parser.proofs.reader.Reader.trailers.Goals as goal
 

@@ -1,6 +1,6 @@
 use Rattle.std.proofs.Common.{◌≡◌, ◌-◌, ◌≤◌, []}
-use Rattle.py_parser.specs.inner.Reading.{reads, trailers_at}
-use Rattle.py_parser.specs.inner.Tall.{plain}
+use Rattle.py_grammar.specs.inner.Reading.{reads, trailers_at}
+use Rattle.py_grammar.specs.inner.Tall.{plain}
 use Rattle.py_parser.proofs.reader.Reader.trailers.Given as goal
 
 abbrev pub invariant-turns : goal.invariant-turns

@@ -1,8 +1,0 @@
-use Rattle.py_parser.proofs.Ends.{ends, ends_text}
-use Rattle.py_parser.proofs.laws.ends_law.Goals as goal
-
-pub returns-clause-text : goal.returns-clause-text
-returns-clause-text c = ends_text
-
-pub returns-clause-stream : goal.returns-clause-stream
-returns-clause-stream c = ends
