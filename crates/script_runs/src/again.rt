@@ -6,11 +6,12 @@ ghost use Rattle.py_frames.specs.Sound.{Sound};
 ghost use Rattle.py_step.specs.Client.{program_in};
 ghost use Rattle.stm_io.specs.Memory.{sure_sink_state, sure_source_state};
 
+use front_end::compile_text;
 use lock_run::{History, LockRun, Turn};
 use py_step::PyClient;
 use std::alloc::{AllocError, Global};
 use stm_io::{SureSink, SureSource};
-use stm_top::{SCRIPT_LIMIT, compile_text};
+use stm_top::SCRIPT_LIMIT;
 
 type SureRun<'p> = LockRun<'p, PyClient, SureSource, SureSink, SureSink>;
 

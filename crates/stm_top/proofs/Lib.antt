@@ -1,6 +1,4 @@
 mod FullHeap
 mod HandedOver
-mod OneAnswer
-mod SomeAnswer
 mod Taking
 mod TopSteps

@@ -5,10 +5,8 @@ mod answer;
 mod run;
 mod script;
 mod status;
-mod text_code;
 mod top;
 
 pub use script::SCRIPT_LIMIT;
 pub use status::Status;
-pub use text_code::{TextFault, compile_text, text_law};
 pub use top::{Report, run_words};

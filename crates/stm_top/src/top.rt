@@ -3,7 +3,7 @@ ghost use Rattle.std.specs.Prelude.{◌≡◌, ◌≤◌, length};
 ghost use Rattle.py_frames.specs.Laws.{prog_of};
 ghost use Rattle.paged_store.specs.Stores.{paged_meaning, reserved_of};
 ghost use Rattle.stm_words.specs.Options.{IsWithin};
-ghost use Rattle.stm_top.specs.TextCode.{HasCode, IsRefused};
+ghost use Rattle.front_end.specs.TextCode.{HasCode, IsRefused};
 ghost use Rattle.stm_top.specs.TopCall.{devices_of, told_of, bytes_of, Caused, CausedBy, TextPut, Answered};
 ghost use Rattle.stm_top.specs.inner.Ending.{TextEnded};
 
@@ -11,7 +11,7 @@ use crate::answer::Answer;
 use crate::run::{End, Outside, nothing_ran, run_threads};
 use crate::script::take_script;
 use crate::status::Status;
-use crate::text_code::{TextFault, compile_text};
+use front_end::{TextFault, compile_text};
 use lock_run::History;
 use paged_store::PagedStore;
 use py_data::{Bytes, Conflicts};

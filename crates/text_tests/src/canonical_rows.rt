@@ -2,7 +2,7 @@
 //! text of its tree; `$` is a line end.
 use crate::tables::check_rows;
 use crate::text_rows::{text_of, tree_of};
-use py_data::{Bytes, NoMemory};
+use py_base::{Bytes, NoMemory};
 use py_tree::module_text;
 use std::alloc::Global;
 use std::test;

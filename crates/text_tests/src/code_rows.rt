@@ -3,12 +3,12 @@
 //! a line end.
 use crate::tables::check_rows;
 use crate::text_rows::text_of;
+use front_end::compile_text;
+use py_base::NoMemory;
 use py_code::{Program, listing};
-use py_data::NoMemory;
 use py_verify::Verified;
 use std::alloc::Global;
 use std::test;
-use stm_top::compile_text;
 
 type Tested = Result<(), test::Fail>;
 

@@ -3,7 +3,7 @@
 //! bar and the others.
 use crate::tables::check_rows;
 use crate::text_rows::{text_of, tree_of};
-use py_data::{Bytes, NoMemory, Refusal};
+use py_base::{Bytes, NoMemory, Refusal};
 use py_names::{NameFault, Scope, Scopes, resolve};
 use std::alloc::Global;
 use std::test;

@@ -3,10 +3,10 @@
 use crate::scripts::COUNTER;
 use crate::tables::check_rows;
 use crate::text_rows::text_of;
-use py_data::NoMemory;
+use front_end::{TextFault, compile_text};
+use py_base::NoMemory;
 use std::alloc::Global;
 use std::test;
-use stm_top::{TextFault, compile_text};
 
 type Tested = Result<(), test::Fail>;
 

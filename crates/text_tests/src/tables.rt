@@ -1,5 +1,5 @@
 //! Tables of rows: an answer, `?` and a text, a row a line.
-use py_data::NoMemory;
+use py_base::NoMemory;
 use std::alloc::Global;
 use std::process::Abort;
 use std::test;

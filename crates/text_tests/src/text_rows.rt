@@ -1,5 +1,5 @@
 //! What tests of texts share: a row's text, and its tree.
-use py_data::NoMemory;
+use py_base::NoMemory;
 use py_grammar::ends_law;
 use py_parser::parse;
 use py_tokens::tokens;

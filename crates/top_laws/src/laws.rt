@@ -1,10 +1,10 @@
 //! Laws of what the top call answers, as contracts: a call of such a function does nothing, and gives its caller's
 //! proof the facts of its clauses. Their premise is what `run_words` ensures.
 ghost use Rattle.py_frames.specs.Laws.{prog_of};
-ghost use Rattle.stm_top.specs.TextCode.{HasCode, IsRefused};
+ghost use Rattle.front_end.specs.TextCode.{HasCode, IsRefused};
 ghost use Rattle.top_laws.specs.Laws.{IdleLaw, RanLaw, NoOptionsLaw, OptionsLaw, RefusedLaw, TooLongLaw, ProgramLaw, LeadsLaw, StandsLaw, DoneLaw, StuckLaw, ReadyLaw, SameLaw, HeapLaw, LeftLaw, FinishedLaw, CompleteLaw};
 
-use stm_top::text_law;
+use front_end::text_law;
 
 /// What a status may be by the report's store, by the words and by the script. Without a store it is 2, 3, 4, 5, 11 or
 /// 12, and with one 0, 1, or 5 to 11. Words without options give 2 or 11, and 2 comes of no others. A script that is

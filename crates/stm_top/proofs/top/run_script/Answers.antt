@@ -2,7 +2,7 @@ use Rattle.std.proofs.Common.{sym, ap, subst, length, arith}
 use Rattle.paged_store.specs.Stores.{paged_meaning, reserved_of}
 use Rattle.py_frames.specs.Laws.{prog_of}
 use Rattle.stm_top.specs.Script.{Origin}
-use Rattle.stm_top.specs.TextCode.{HasCode, IsRefused}
+use Rattle.front_end.specs.TextCode.{HasCode, IsRefused}
 use Rattle.stm_top.specs.TopCall.{devices_of, Told, told_of}
 use Rattle.stm_top.specs.inner.Ending.{TextEnded}
 use Rattle.stm_top.proofs.TopSteps.{taken_short, text_ran}

@@ -1,5 +1,5 @@
 use Rattle.py_frames.specs.Laws.{prog_of}
-use Rattle.stm_top.specs.TextCode.{HasCode, IsRefused}
+use Rattle.front_end.specs.TextCode.{HasCode, IsRefused}
 use Rattle.top_laws.proofs.Wording as words
 use Rattle.top_laws.proofs.Refusing as script
 use Rattle.top_laws.proofs.laws.answered_law.Goals as goal

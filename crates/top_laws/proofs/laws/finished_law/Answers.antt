@@ -1,5 +1,5 @@
 use Rattle.py_frames.specs.Laws.{prog_of}
-use Rattle.stm_top.specs.TextCode.{HasCode, IsRefused}
+use Rattle.front_end.specs.TextCode.{HasCode, IsRefused}
 use Rattle.top_laws.proofs.Finishing as free
 use Rattle.top_laws.proofs.laws.finished_law.Goals as goal
 

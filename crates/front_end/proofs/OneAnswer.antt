@@ -16,7 +16,7 @@ use Rattle.py_code.specs.declared.program.Program.{Program}
 use Rattle.py_compile.specs.Compiles.{bound_in}
 use Rattle.py_compile.specs.Whole.{program_of, too_large_in}
 use Rattle.front_laws.specs.Trees.{IsTree}
-use Rattle.stm_top.specs.TextCode.{HasNoTree, HasScopes, HasNoScopes, HasCode, HasNoCode, IsRefused}
+use Rattle.front_end.specs.TextCode.{HasNoTree, HasScopes, HasNoScopes, HasCode, HasNoCode, IsRefused}
 
 -- ---- lists and answers
 

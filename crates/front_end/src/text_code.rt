@@ -6,13 +6,13 @@ ghost use Rattle.py_grammar.specs.Refused.{EndsOnce};
 ghost use Rattle.py_code.specs.Right.{IsRightProgram};
 ghost use Rattle.py_code.specs.declared.program.Program.{Program as Code};
 ghost use Rattle.front_laws.specs.Trees.{IsTree};
-ghost use Rattle.stm_top.specs.TextCode.{HasCode, HasScopes, IsFault, IsRefused};
+ghost use Rattle.front_end.specs.TextCode.{HasCode, HasScopes, IsFault, IsRefused};
 
 use compiler_laws::right_law;
 use front_laws::{round_law, tree_law};
+use py_base::Refusal;
 use py_code::Program;
 use py_compile::{CompileError, compile};
-use py_data::Refusal;
 use py_grammar::ends_law;
 use py_names::{NameFault, Scopes, resolve};
 use py_parser::{ParseError, parse};

@@ -1,6 +1,6 @@
-use Rattle.stm_top.proofs.OneAnswer.{one_program, one_refusal, program_or_refusal}
-use Rattle.stm_top.proofs.SomeAnswer.{some_answer}
-use Rattle.stm_top.proofs.text_code.text_law.Goals as goal
+use Rattle.front_end.proofs.OneAnswer.{one_program, one_refusal, program_or_refusal}
+use Rattle.front_end.proofs.SomeAnswer.{some_answer}
+use Rattle.front_end.proofs.text_code.text_law.Goals as goal
 
 pub returns-clause-some : goal.returns-clause-some
 returns-clause-some c = some_answer c.tree_law.ensures.some c.ends_law.ensures.text

@@ -14,8 +14,8 @@ use Rattle.py_names.specs.Scopes.{AreScopes, fault}
 use Rattle.py_code.specs.declared.program.Program.{Program}
 use Rattle.py_compile.specs.Compiles.{bound_in}
 use Rattle.py_compile.specs.Whole.{program_of, too_large_in}
-use Rattle.stm_top.specs.declared.text_code.TextFault.{TextFault}
-use Rattle.stm_top.specs.declared.text_code.TextFault.TheVariants.{Refused, OutOfMemory}
+use Rattle.front_end.specs.declared.text_code.TextFault.{TextFault}
+use Rattle.front_end.specs.declared.text_code.TextFault.TheVariants.{Refused, OutOfMemory}
 
 -- ---- the tree
 -- the text's tokens have no tree of a height of at most 100, and are refused where that shows first
