@@ -47,3 +47,4 @@ mod AimedAtoms
 mod AimClimbs
 mod AimReads
 pub mod AimUnfold
+pub mod Turns

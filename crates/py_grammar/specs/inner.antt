@@ -2,5 +2,6 @@
 pub mod Aiming
 pub mod Follow
 pub mod Lines
+pub mod Pieces
 pub mod Reading
 pub mod Tall

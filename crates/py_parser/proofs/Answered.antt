@@ -9,10 +9,10 @@ use Rattle.py_grammar.specs.Statements.{IsModule}
 use Rattle.py_grammar.specs.Words.{line_of}
 use Rattle.py_grammar.specs.inner.Lines.{module_at}
 use Rattle.py_grammar.specs.inner.Reading.{Reads}
-use Rattle.py_parser.specs.declared.error.ParseError.{ParseError}
-use Rattle.py_parser.specs.declared.error.ParseError.TheVariants.{Refused, OutOfMemory}
+use Rattle.py_atoms.specs.declared.error.ParseError.{ParseError}
+use Rattle.py_atoms.specs.declared.error.ParseError.TheVariants.{Refused, OutOfMemory}
 use Rattle.py_parser.specs.Parses.{Parses}
-use Rattle.py_parser.specs.inner.Outcome.{Fails}
+use Rattle.py_atoms.specs.inner.Outcome.{Fails}
 
 abbrev Found : Type 0
 Found = (ts : List Token) (m : Module) (rest : List Token) → EndsOnce ts → module_at (length ts) ts ≡ Ok (m, rest) →

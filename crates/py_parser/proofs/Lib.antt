@@ -1,4 +1,2 @@
-mod Unfold
 mod Suites
-mod Turns
 mod Answered

@@ -4,8 +4,8 @@ use Rattle.std.specs.Prelude.{◌≡◌, ℕ, ◌≤◌, List, Result, Ok, Err}
 use Rattle.py_tokens.specs.declared.token.Token.{Token}
 use Rattle.py_tree.specs.declared.stmt.Module.{Module}
 use Rattle.py_tree.specs.Tall.{tall_module}
-use Rattle.py_parser.specs.declared.error.ParseError.{ParseError}
-use Rattle.py_parser.specs.declared.error.ParseError.TheVariants.{Refused, OutOfMemory}
+use Rattle.py_atoms.specs.declared.error.ParseError.{ParseError}
+use Rattle.py_atoms.specs.declared.error.ParseError.TheVariants.{Refused, OutOfMemory}
 use Rattle.py_grammar.specs.declared.fault.Fault.{Fault}
 use Rattle.py_grammar.specs.Statements.{IsModule}
 use Rattle.py_grammar.specs.Refused.{refusal_of, RefusedAt}

@@ -1,7 +1,4 @@
 -- What code and proofs say to each other: nothing public rests on it.
-pub mod Asking
-pub mod Outcome
-pub mod Pieces
 pub mod SimplePieces
 pub mod Stops
 pub mod Suites

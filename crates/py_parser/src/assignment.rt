@@ -1,17 +1,16 @@
 //! Assignments, and expressions as statements.
 ghost use Rattle.std.specs.Prelude.{◌≡◌, ◌≤◌, [], None, Some};
 ghost use Rattle.py_grammar.specs.inner.Lines.{equals_at, run_or_assign, run_at, running_at};
-ghost use Rattle.py_parser.specs.inner.Outcome.{Gives};
+ghost use Rattle.py_atoms.specs.inner.Outcome.{Gives};
 ghost use Rattle.py_grammar.specs.inner.Aiming.{readers};
 
-use crate::cursor::{Read, keyword_next, line_of, op_next, refused, rest};
-use crate::expression::expression;
-use crate::operators::assigned_next;
-use crate::reader::TESTS;
-use crate::request::Request;
-use crate::tall::{HEIGHT_LIMIT, is_single};
 use crate::target::{TargetPlace, check_target};
+use py_atoms::cursor::{Read, keyword_next, line_of, op_next, refused, rest};
+use py_atoms::tall::{HEIGHT_LIMIT, is_single};
+use py_atoms::{Request, TESTS};
 use py_base::Construct;
+use py_exprs::expression::expression;
+use py_exprs::operators::assigned_next;
 use py_grammar::{Fault, Tall};
 use py_tokens::{Token, keyword, operator};
 use py_tree::{Expr, Operator, Stmt};

@@ -2,24 +2,22 @@
 ghost use Rattle.std.specs.Prelude.{◌≡◌, ◌+◌, ◌-◌, ◌<◌, ◌≤◌, [], ◌∷◌, IfOk};
 ghost use Rattle.py_tokens.specs.declared.token.TokenKind.TheVariants as k;
 ghost use Rattle.py_grammar.specs.inner.Lines.{line_at, body_at, arm_at, elifs_at, clause_at, handler_at, handlers_at, try_at, def_at, class_at, compound_at, is_compound, statement_by, statement_at, suite_at, line_of_at, statements_at};
-ghost use Rattle.py_parser.specs.inner.Outcome.{Gives};
+ghost use Rattle.py_atoms.specs.inner.Outcome.{Gives};
 ghost use Rattle.py_grammar.specs.inner.Aiming.{readers};
 ghost use Rattle.py_parser.specs.inner.Suites.{AnswersStatements, inner_block, parts_of, if_at, while_at, for_at, tried_at, alone_at};
 ghost use Rattle.py_grammar.specs.inner.Tall.{tree_or};
 
-use crate::cursor::{
+use crate::header::{base, caught, loop_target, parameters};
+use crate::simple_line::line;
+use crate::statement::tree_or;
+use py_atoms::cursor::{
     Read, dedent_next, indent_next, keyword_next, line_of, newline_next, op_next, refused, rest,
     take_keyword, take_name, take_op,
 };
-use crate::error::ParseError;
-use crate::expression::expression;
-use crate::header::{base, caught, loop_target, parameters};
-use crate::reader::{TEST, TESTS};
-use crate::request::Request;
-use crate::simple_line::line;
-use crate::statement::tree_or;
-use crate::tall::HEIGHT_LIMIT;
+use py_atoms::tall::HEIGHT_LIMIT;
+use py_atoms::{ParseError, Request, TEST, TESTS};
 use py_base::{Construct, split};
+use py_exprs::expression::expression;
 use py_grammar::{Fault, Tall};
 use py_tokens::{Token, TokenKind, keyword, operator};
 use py_tree::{Arm, Clause, Expr, Handler, Stmt};

@@ -1,21 +1,18 @@
 //! What stands between the keyword of a compound statement and its block.
 ghost use Rattle.std.specs.Prelude.{◌≡◌, ◌-◌, ◌<◌, ◌≤◌, [], false, IfOk};
 ghost use Rattle.py_grammar.specs.inner.Lines.{loops_at, loop_at, caught_at, param_at, params_at, base_at};
-ghost use Rattle.py_parser.specs.inner.Outcome.{Gives};
+ghost use Rattle.py_atoms.specs.inner.Outcome.{Gives};
 ghost use Rattle.py_grammar.specs.inner.Aiming.{readers};
 ghost use Rattle.py_parser.specs.inner.Suites.{parameters_at};
 ghost use Rattle.py_grammar.specs.inner.Tall.{start};
 
-use crate::cursor::{Read, comes, keyword_next, op_next, refused, rest, take_name, take_op};
-use crate::expression::expression;
-use crate::node;
-use crate::reader::{TARGET, TEST};
-use crate::request::Request;
 use crate::statement::maybe;
-use crate::tall::{HEIGHT_LIMIT, push, start};
 use crate::target::{TargetPlace, target};
-use crate::trailer::star_next;
+use py_atoms::cursor::{Read, comes, keyword_next, op_next, refused, rest, take_name, take_op};
+use py_atoms::tall::{HEIGHT_LIMIT, push, start};
+use py_atoms::{Request, TARGET, TEST, node, star_next};
 use py_base::Construct;
+use py_exprs::expression::expression;
 use py_grammar::{Fault, Tall};
 use py_tokens::{Token, keyword, operator};
 use py_tree::{Expr, Param};

@@ -2,8 +2,8 @@
 ghost use Rattle.py_parser.specs.Parses.{Parses};
 ghost use Rattle.py_grammar.specs.Refused.{EndsOnce};
 
-use crate::error::ParseError;
 use crate::suite::module;
+use py_atoms::ParseError;
 use py_grammar::grammar_law;
 use py_tokens::Token;
 use py_tree::Module;

@@ -1,13 +1,13 @@
 //! The simple statements of a line.
 ghost use Rattle.std.specs.Prelude.{◌-◌, ◌<◌, ◌≤◌, [], ◌∷◌};
 ghost use Rattle.py_grammar.specs.inner.Lines.{is_newline, plain_at, simple_at, line_more, line_at};
-ghost use Rattle.py_parser.specs.inner.Outcome.{Gives};
+ghost use Rattle.py_atoms.specs.inner.Outcome.{Gives};
 ghost use Rattle.py_grammar.specs.inner.Aiming.{readers};
 
-use crate::cursor::{Read, newline_next, op_next, refused, rest};
-use crate::error::ParseError;
 use crate::statement::simple;
-use crate::tall::HEIGHT_LIMIT;
+use py_atoms::ParseError;
+use py_atoms::cursor::{Read, newline_next, op_next, refused, rest};
+use py_atoms::tall::HEIGHT_LIMIT;
 use py_grammar::Fault;
 use py_tokens::{Token, operator};
 use py_tree::Stmt;

@@ -1,20 +1,19 @@
 //! Simple statements.
 ghost use Rattle.std.specs.Prelude.{◌≡◌, ◌-◌, ◌<◌, ◌≤◌, [], ◌∷◌};
 ghost use Rattle.py_grammar.specs.inner.Lines.{maybe_at, names_at, print_at, raise_at, assert_at, worded_at, running_at, simple_at};
-ghost use Rattle.py_parser.specs.inner.Outcome.{Gives};
+ghost use Rattle.py_atoms.specs.inner.Outcome.{Gives};
 ghost use Rattle.py_grammar.specs.inner.Aiming.{readers};
 ghost use Rattle.py_parser.specs.inner.SimplePieces.{return_at, raise_or_none_at, del_at, global_at, assert_test_at};
 ghost use Rattle.py_grammar.specs.inner.Tall.{tree_or};
 
 use crate::assignment::running;
-use crate::cursor::{Read, comes, line_of, op_next, refused, rest, take_name};
-use crate::expression::{expression, tests};
 use crate::imports::{from, import};
-use crate::reader::{TEST, TESTS};
-use crate::request::Request;
-use crate::tall::HEIGHT_LIMIT;
 use crate::target::{TargetPlace, target, targets};
+use py_atoms::cursor::{Read, comes, line_of, op_next, refused, rest, take_name};
+use py_atoms::tall::HEIGHT_LIMIT;
+use py_atoms::{Request, TEST, TESTS};
 use py_base::{Bytes, Construct, split};
+use py_exprs::expression::{expression, tests};
 use py_grammar::{Fault, Tall};
 use py_tokens::{Token, TokenKind, keyword, operator};
 use py_tree::{Expr, Stmt};

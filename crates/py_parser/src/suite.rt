@@ -2,13 +2,13 @@
 //! around it.
 ghost use Rattle.std.specs.Prelude.{◌≡◌, ◌+◌, ◌-◌, ◌<◌, ◌≤◌, [], length};
 ghost use Rattle.py_grammar.specs.inner.Lines.{statement_at, statements_at, body_more, module_at};
-ghost use Rattle.py_parser.specs.inner.Outcome.{Gives};
+ghost use Rattle.py_atoms.specs.inner.Outcome.{Gives};
 ghost use Rattle.py_parser.specs.inner.Suites.{AnswersStatements, parts_of};
 
 use crate::compound::Compound;
-use crate::cursor::{Read, end_next, newline_next, refused, rest};
-use crate::error::ParseError;
-use crate::tall::HEIGHT_LIMIT;
+use py_atoms::ParseError;
+use py_atoms::cursor::{Read, end_next, newline_next, refused, rest};
+use py_atoms::tall::HEIGHT_LIMIT;
 use py_grammar::Fault;
 use py_tokens::Token;
 use py_tree::{Module, Stmt};

@@ -1,17 +1,17 @@
 //! Targets.
 ghost use Rattle.std.specs.Prelude.{◌≡◌, ◌≤◌, IfOk};
-ghost use Rattle.py_parser.specs.inner.Outcome.{Gives};
+ghost use Rattle.py_atoms.specs.inner.Outcome.{Gives};
 ghost use Rattle.py_grammar.specs.inner.Aiming.{readers};
 ghost use Rattle.py_grammar.specs.inner.Reading.{first};
 ghost use Rattle.py_grammar.specs.inner.Lines.{checked, target_at, targets_at};
 ghost use Rattle.py_parser.specs.inner.Stops.{stop_of};
 ghost use Rattle.py_grammar.specs.inner.Tall.{start};
 
-use crate::aiming::aim;
-use crate::cursor::{Read, keyword_next, newline_next, op_next, refused, rest};
-use crate::error::ParseError;
-use crate::tall::{HEIGHT_LIMIT, is_target, push, start};
+use py_atoms::ParseError;
+use py_atoms::cursor::{Read, keyword_next, newline_next, op_next, refused, rest};
+use py_atoms::tall::{HEIGHT_LIMIT, is_target, push, start};
 use py_base::Construct;
+use py_exprs::aiming::aim;
 use py_grammar::{Fault, Tall};
 use py_tokens::{Token, keyword, operator};
 use py_tree::Expr;

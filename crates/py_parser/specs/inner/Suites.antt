@@ -7,10 +7,10 @@ use Rattle.py_tokens.specs.declared.token.Token.{Token}
 use Rattle.py_tree.specs.declared.stmt.Param.{Param}
 use Rattle.py_tree.specs.declared.stmt.Stmt.{Stmt}
 use Rattle.py_tree.specs.declared.stmt.Stmt.TheVariants as s
-use Rattle.py_parser.specs.declared.error.ParseError.{ParseError}
+use Rattle.py_atoms.specs.declared.error.ParseError.{ParseError}
 use Rattle.py_grammar.specs.declared.fault.Fault.TheVariants.{Deep}
 use Rattle.py_grammar.specs.inner.Lines.{Suite, Parts, block_at, line_of_at, statements_at, params_at, arm_at, elifs_at, clause_at, loop_at, body_at, try_at, compound_at}
-use Rattle.py_parser.specs.inner.Outcome.{Gives}
+use Rattle.py_atoms.specs.inner.Outcome.{Gives}
 use Rattle.py_grammar.specs.inner.Reading.{Reader, ◌>>=◌, first, rest, is_op, keyword_at}
 use Rattle.py_grammar.specs.inner.Aiming.{Readers, readers}
 use Rattle.py_grammar.specs.Words.{line_of}

@@ -2,7 +2,7 @@ use Rattle.std.proofs.Common.{arith}
 use Rattle.std.proofs.lemmas.Grind.{common_steps}
 use Rattle.py_grammar.specs.inner.Lines.{params_at}
 use Rattle.py_grammar.specs.inner.Aiming.{readers}
-use Rattle.py_parser.proofs.Turns.{one_more}
+use Rattle.py_grammar.proofs.Turns.{one_more}
 use Rattle.py_parser.proofs.header.params.Goals as goal
 
 pub returns-in_err-param : goal.returns-in_err-param

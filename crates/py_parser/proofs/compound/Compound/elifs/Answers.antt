@@ -3,7 +3,7 @@ use Rattle.std.proofs.lemmas.Grind.{common_steps}
 use Rattle.py_grammar.specs.inner.Lines.{elifs_at}
 use Rattle.py_grammar.specs.inner.Aiming.{readers}
 use Rattle.py_parser.specs.inner.Suites.{inner_block}
-use Rattle.py_parser.proofs.Turns.{one_more}
+use Rattle.py_grammar.proofs.Turns.{one_more}
 use Rattle.py_parser.proofs.compound.Compound.elifs.Goals as goal
 
 pub returns-in_err-arm : goal.returns-in_err-arm

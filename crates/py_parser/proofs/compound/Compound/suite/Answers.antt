@@ -1,7 +1,7 @@
 use Rattle.std.proofs.Common.{arith, ◌-◌}
 use Rattle.std.proofs.lemmas.Grind.{common_steps}
 use Rattle.py_grammar.specs.inner.Lines.{suite_at, statements_at}
-use Rattle.py_parser.proofs.Turns.{one_more}
+use Rattle.py_grammar.proofs.Turns.{one_more}
 use Rattle.py_parser.proofs.compound.Compound.suite.Goals as goal
 
 pub returns-in_err-statements : goal.returns-in_err-statements

@@ -1,4 +1,0 @@
-use Rattle.py_parser.proofs.growth.+grows.Given as goal
-
-abbrev pub decreases-grows : goal.decreases-grows
-decreases-grows l = l.rungs
