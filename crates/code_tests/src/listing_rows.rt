@@ -1,28 +1,13 @@
 //! Programs built by hand, and their listings written by hand.
+use crate::joined_texts::texts;
 use py_base::{Bytes, Kind, builtin, operator};
 use py_code::{
-    Code, Codes, Constant, Instr, Instrs, KeyLists, Keys, Lines, Program, Root, Roots, Texts,
-    listing,
+    Code, Codes, Constant, Instr, Instrs, KeyLists, Keys, Lines, Program, Root, Roots, listing,
 };
 use std::alloc::{AllocError, Global};
 use std::test;
 
 type Tested = Result<(), test::Fail>;
-
-/// The texts, each of which ends with a semicolon.
-fn texts(alloc: Global, joined: &[u8]) -> Result<Texts, AllocError> {
-    let mut all = Texts::new(alloc);
-    let mut text = Bytes::new(alloc);
-    for b in joined {
-        if *b == b';' {
-            all.push(text)?;
-            text = Bytes::new(alloc);
-        } else {
-            text.push(*b)?;
-        }
-    }
-    Ok(all)
-}
 
 fn root(alloc: Global, kind: Kind, number: u8, bytes: &[u8]) -> Result<Root, AllocError> {
     Ok(Root {
@@ -99,6 +84,29 @@ fn no_code(rt: HostRuntime) -> Tested {
     Ok(())
 }
 
+/// The listing of constants, and of what moves values.
+const CONSTANTS: &str = "
+Code 0: <module>
+  Parameters: 1
+  Slots:
+  Keywords 0:
+     1           0 SETUP
+                 1 CONST          None
+     2           2 CONST          True
+                 3 CONST          False
+                 4 CONST          -70
+     1           5 CONST          builtin 21 (thread.start_new_thread)
+     4           6 CONST          builtin 53
+                 7 CONST          root 1 (KeyError)
+                 8 CONST          root 6
+                 9 POP
+                10 DUP
+                11 ROT2
+                12 DUP2
+                13 ROT3
+   120          14 RETURN
+";
+
 #[test]
 fn constants(rt: HostRuntime) -> Tested {
     let alloc = rt.alloc();
@@ -121,28 +129,7 @@ fn constants(rt: HostRuntime) -> Tested {
     ];
     let lines = [1, 1, 2, 2, 2, 1, 4, 4, 4, 4, 4, 4, 4, 4, 120];
     let module = code(alloc, b"", b"", instrs.as_slice(), lines.as_slice())?;
-    let want = "
-Code 0: <module>
-  Parameters: 1
-  Slots:
-  Keywords 0:
-     1           0 SETUP
-                 1 CONST          None
-     2           2 CONST          True
-                 3 CONST          False
-                 4 CONST          -70
-     1           5 CONST          builtin 21 (thread.start_new_thread)
-     4           6 CONST          builtin 53
-                 7 CONST          root 1 (KeyError)
-                 8 CONST          root 6
-                 9 POP
-                10 DUP
-                11 ROT2
-                12 DUP2
-                13 ROT3
-   120          14 RETURN
-";
-    assert!(rt; is_code_listed(alloc, module, want)?);
+    assert!(rt; is_code_listed(alloc, module, CONSTANTS)?);
     Ok(())
 }
 
@@ -188,6 +175,30 @@ Code 0: f
     Ok(())
 }
 
+/// The listing of operators, and of what builds values.
+const OPERATORS: &str = "
+Code 0: operators
+  Parameters: 1
+  Slots: a b
+  Keywords 0:
+                 0 LOAD_ITEM
+                 1 STORE_ITEM
+                 2 DEL_ITEM
+                 3 SLICE
+                 4 UNARY          1 (-)
+                 5 UNARY          3
+                 6 NOT
+                 7 BINARY         9 (//)
+                 8 INPLACE        5 (+)
+                 9 INPLACE        12
+                10 COMPARE        9 (is not)
+                11 COMPARE        10
+                12 BUILD_TUPLE    2
+                13 BUILD_LIST     1
+                14 BUILD_DICT     10
+                15 UNPACK         0
+";
+
 #[test]
 fn operators(rt: HostRuntime) -> Tested {
     let alloc = rt.alloc();
@@ -210,29 +221,7 @@ fn operators(rt: HostRuntime) -> Tested {
         Instr::Unpack(0),
     ];
     let body = code(alloc, b"operators", b"a;b;", instrs.as_slice(), &[])?;
-    let want = "
-Code 0: operators
-  Parameters: 1
-  Slots: a b
-  Keywords 0:
-                 0 LOAD_ITEM
-                 1 STORE_ITEM
-                 2 DEL_ITEM
-                 3 SLICE
-                 4 UNARY          1 (-)
-                 5 UNARY          3
-                 6 NOT
-                 7 BINARY         9 (//)
-                 8 INPLACE        5 (+)
-                 9 INPLACE        12
-                10 COMPARE        9 (is not)
-                11 COMPARE        10
-                12 BUILD_TUPLE    2
-                13 BUILD_LIST     1
-                14 BUILD_DICT     10
-                15 UNPACK         0
-";
-    assert!(rt; is_code_listed(alloc, body, want)?);
+    assert!(rt; is_code_listed(alloc, body, OPERATORS)?);
     Ok(())
 }
 

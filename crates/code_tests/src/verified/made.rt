@@ -1,6 +1,7 @@
 //! Programs made of their parts, and whether they pass.
+use crate::joined_texts::texts;
 use py_base::{Bytes, Kind, exception};
-use py_code::{Code, Codes, Instr, Instrs, KeyLists, Keys, Lines, Program, Root, Roots, Texts};
+use py_code::{Code, Codes, Instr, Instrs, KeyLists, Keys, Lines, Program, Root, Roots};
 use py_verify::verify;
 use std::alloc::{AllocError, Global};
 
@@ -9,21 +10,6 @@ pub const TEXT: u32 = 21;
 
 /// The first cell of a global name, where there is one string.
 pub const CELL: u32 = 22;
-
-/// The texts, each of which ends with a semicolon.
-pub fn texts(alloc: Global, joined: &[u8]) -> Result<Texts, AllocError> {
-    let mut all = Texts::new(alloc);
-    let mut text = Bytes::new(alloc);
-    for b in joined {
-        if *b == b';' {
-            all.push(text)?;
-            text = Bytes::new(alloc);
-        } else {
-            text.push(*b)?;
-        }
-    }
-    Ok(all)
-}
 
 /// Adds a root.
 pub fn add_root(
