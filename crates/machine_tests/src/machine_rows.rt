@@ -13,7 +13,7 @@ use stm_io::{MemSink, MemSource};
 
 type Tested = Result<(), test::Fail>;
 
-pub(crate) type MemRun<'p> = LockRun<'p, Script, MemSource, MemSink, MemSink>;
+type MemRun<'p> = LockRun<'p, Script, MemSource, MemSink, MemSink>;
 
 /// Two Cells, and two threads.
 fn script(rt: &impl Abort, alloc: Global) -> Result<Script, test::Fail> {
@@ -75,7 +75,7 @@ fn turn(
 }
 
 /// The output of a machine that is finished.
-pub(crate) fn output(run: MemRun<'_>) -> MemSink {
+fn output(run: MemRun<'_>) -> MemSink {
     let (_, out, _) = run.finish();
     out
 }
