@@ -11,6 +11,7 @@ mod changes;
 mod image;
 mod keys;
 mod shapes;
+mod sight;
 
 use crate::kinds::has_bytes;
 use py_data::{Addr, Head, Kind, Value};

@@ -1,15 +1,16 @@
 //! A store of maps and a store of pages to which the same is done.
 use crate::bench::Bench;
-use crate::extents::{Counts, Words, body_class, class_holding, extents};
+use crate::extents::Words;
+use crate::in_use::{used, wanted_more, wanted_new};
 use crate::numbers::Numbers;
-use py_data::{Addr, Kind, Record, Value, Values};
+use crate::places::{
+    Look, Place, is_fresh, looks_at, looks_without, moved, moved_record, same_shown, seen_from,
+};
+use py_data::{Addr, Kind, Record, Value};
 use seg_store::{SegStore, StoreFault};
 use std::alloc::Global;
 use std::process::Abort;
 use std::test::Fail;
-
-/// The two addresses of a record.
-pub type Place = (Addr, Addr);
 
 /// Both stores, the places of the records that some segment sees, and the looks of each segment; and how many words
 /// must be reserved.
@@ -19,23 +20,9 @@ pub struct Both<M: SegStore, P: SegStore> {
     maps: Bench<M>,
     pages: Bench<P>,
     places: Vec<Place>,
-    looks: Vec<(u8, Addr, Addr)>,
+    looks: Vec<Look>,
     words: Words,
     full: bool,
-}
-
-/// Adds counts to others.
-fn add_counts(counts: &mut Counts, more: &Counts) {
-    'classes: for c in 0..24 {
-        counts[c] = counts[c].saturating_add(more[c]);
-    }
-}
-
-/// Adds to counts what others have beyond a third.
-fn add_beyond(counts: &mut Counts, more: &Counts, base: &Counts) {
-    'classes: for c in 0..24 {
-        counts[c] = counts[c].saturating_add(more[c].saturating_sub(base[c]));
-    }
 }
 
 impl<M: SegStore, P: SegStore> Both<M, P> {
@@ -55,60 +42,6 @@ impl<M: SegStore, P: SegStore> Both<M, P> {
     /// A call met a full heap.
     pub fn was_full(&self) -> bool {
         self.full
-    }
-
-    /// The value as the store of pages has it.
-    fn moved(&self, rt: &impl Abort, v: Value) -> Value {
-        let Value::Ref(a) = v else {
-            return v;
-        };
-        'places: for i in 0..self.places.len() {
-            let (x, y) = self.places[i];
-            if x == a {
-                return Value::Ref(y);
-            }
-        }
-        panic!(rt; "an address of no record")
-    }
-
-    /// The extents of a record as a segment sees it.
-    fn extents_of(&self, rt: &impl Abort, k: u8, a: Addr) -> Counts {
-        let kind = self.maps.kind(rt, k, a);
-        extents(kind, self.maps.len(rt, k, a), self.maps.rooms(rt, k, a))
-    }
-
-    /// The extents of a record of the image. Where the only segment holds it, those are counted that it has there.
-    fn extents_in_image(&self, rt: &impl Abort, a: Addr) -> Counts {
-        if !self.maps.in_image(a) {
-            return [0; 24];
-        }
-        'segments: for k in 0..self.maps.segments() {
-            if !self.maps.holds(k, a) {
-                return self.extents_of(rt, k, a);
-            }
-        }
-        self.extents_of(rt, 0, a)
-    }
-
-    /// Adds the extents of a record.
-    fn add_used(&self, rt: &impl Abort, a: Addr, used: &mut Counts) {
-        let image = self.extents_in_image(rt, a);
-        add_counts(used, &image);
-        'segments: for k in 0..self.maps.segments() {
-            if self.maps.holds(k, a) {
-                add_beyond(used, &self.extents_of(rt, k, a), &image);
-            }
-        }
-    }
-
-    /// How many extents of each class are in use.
-    fn used(&self, rt: &impl Abort) -> Counts {
-        let mut used = [0; 24];
-        'places: for i in 0..self.places.len() {
-            let (a, _) = self.places[i];
-            self.add_used(rt, a, &mut used);
-        }
-        used
     }
 
     /// As many words are reserved as must be.
@@ -133,46 +66,10 @@ impl<M: SegStore, P: SegStore> Both<M, P> {
         self.full = true;
     }
 
-    /// The record as the store of pages has it.
-    fn moved_record(&self, rt: &impl Abort, r: &Record) -> Result<Record, Fail> {
-        let mut values = Values::new(self.alloc);
-        let old = r.values.as_slice();
-        'values: for i in 0..old.len() {
-            let v = self.moved(rt, old[i]);
-            values.push(v)?;
-        }
-        Ok(Record {
-            kind: r.kind,
-            values,
-            bytes: r.bytes.copy(self.alloc)?,
-        })
-    }
-
     /// The extents that a new record wants are taken. Where one can't be had it answers its words.
     fn claim_new(&mut self, rt: &impl Abort, r: &Record) -> Option<u64> {
-        let n = r.values.len();
-        let body = match r.kind {
-            Kind::Str => class_holding(r.bytes.len().div_ceil(8)),
-            Kind::Dict => body_class(n.max(2)),
-            _ => body_class(n),
-        };
-        let index = match r.kind {
-            Kind::Dict => body.saturating_sub(1),
-            _ => 0,
-        };
-        let used = self.used(rt);
-        self.words.claim(&used, (2, body, index))
-    }
-
-    /// No record stands at an address of the store of pages.
-    fn is_fresh(&self, b: Addr) -> bool {
-        'places: for i in 0..self.places.len() {
-            let (_, y) = self.places[i];
-            if y == b {
-                return false;
-            }
-        }
-        true
+        let counts = used(rt, &self.maps, &self.places);
+        self.words.claim(&counts, wanted_new(r))
     }
 
     /// Makes a record, if it has its kind's shape.
@@ -180,12 +77,12 @@ impl<M: SegStore, P: SegStore> Both<M, P> {
         if !self.maps.is_shaped(rt, k, r) {
             return Ok(());
         }
-        let moved = self.moved_record(rt, r)?;
+        let other = moved_record(rt, self.alloc, &self.places, r)?;
         let need = self.claim_new(rt, r);
-        match self.pages.try_make(rt, k, &moved)? {
+        match self.pages.try_make(rt, k, &other)? {
             Ok(b) => {
                 assert!(rt; need.is_none());
-                assert!(rt; self.is_fresh(b));
+                assert!(rt; is_fresh(&self.places, b));
                 let a = self.maps.make(rt, k, r)?;
                 self.places.push((a, b))?;
             }
@@ -197,24 +94,16 @@ impl<M: SegStore, P: SegStore> Both<M, P> {
 
     /// The extents that a record wants to have room for more are taken. Where one can't be had it answers its words.
     fn claim_more(&mut self, rt: &impl Abort, k: u8, a: Addr, more: usize) -> Option<u64> {
-        let (room, _) = self.maps.rooms(rt, k, a);
-        if self.maps.len(rt, k, a).saturating_add(more) <= room {
-            return None;
-        }
-        let body = body_class(room) + 1;
-        let index = match self.maps.kind(rt, k, a) {
-            Kind::Dict => body - 1,
-            _ => 0,
-        };
-        let used = self.used(rt);
-        self.words.claim(&used, (body, index, 0))
+        let wanted = wanted_more(rt, &self.maps, k, a, more)?;
+        let counts = used(rt, &self.maps, &self.places);
+        self.words.claim(&counts, wanted)
     }
 
     /// Pushes a value; false where the heap is full.
     pub fn push(&mut self, rt: &impl Abort, k: u8, place: Place, v: Value) -> bool {
         let (a, b) = place;
         let need = self.claim_more(rt, k, a, 1);
-        let w = self.moved(rt, v);
+        let w = moved(rt, &self.places, v);
         match self.pages.try_push(rt, k, b, w) {
             Ok(()) => {
                 assert!(rt; need.is_none());
@@ -233,7 +122,8 @@ impl<M: SegStore, P: SegStore> Both<M, P> {
     fn find(&self, rt: &impl Abort, k: u8, place: Place, key: Value) -> Option<usize> {
         let (a, b) = place;
         let found = self.maps.find_key(rt, k, a, key);
-        let other = self.pages.find_key(rt, k, b, self.moved(rt, key));
+        let other_key = moved(rt, &self.places, key);
+        let other = self.pages.find_key(rt, k, b, other_key);
         assert!(rt; found == other);
         found
     }
@@ -250,8 +140,8 @@ impl<M: SegStore, P: SegStore> Both<M, P> {
     pub fn pair(&mut self, rt: &impl Abort, k: u8, place: Place, key: Value, v: Value) -> bool {
         let (a, b) = place;
         let need = self.claim_more(rt, k, a, 2);
-        let x = self.moved(rt, key);
-        let w = self.moved(rt, v);
+        let x = moved(rt, &self.places, key);
+        let w = moved(rt, &self.places, v);
         match self.pages.try_pair(rt, k, b, x, w) {
             Ok(()) => {
                 assert!(rt; need.is_none());
@@ -289,7 +179,7 @@ impl<M: SegStore, P: SegStore> Both<M, P> {
         if self.maps.kind(rt, k, a) == Kind::Dict {
             i = i / 2 * 2 + 1;
         }
-        let w = self.moved(rt, v);
+        let w = moved(rt, &self.places, v);
         self.maps.set(rt, k, a, i, v);
         self.pages.set(rt, k, b, i, w);
     }
@@ -306,7 +196,7 @@ impl<M: SegStore, P: SegStore> Both<M, P> {
         let (a, b) = place;
         self.maps.mark(rt, k, a);
         self.pages.mark(rt, k, b);
-        self.looks.push((k, a, b))?;
+        self.looks.push((k, place))?;
         Ok(())
     }
 
@@ -320,7 +210,7 @@ impl<M: SegStore, P: SegStore> Both<M, P> {
         }
         self.maps.lock(rt, k, a);
         self.pages.lock(rt, k, b);
-        self.looks.push((k, a, b))?;
+        self.looks.push((k, place))?;
         Ok(true)
     }
 
@@ -349,38 +239,7 @@ impl<M: SegStore, P: SegStore> Both<M, P> {
     pub fn begin(&mut self, rt: &impl Abort, k: u8) -> Result<(), Fail> {
         self.maps.begin(rt, k);
         self.pages.begin(rt, k);
-        let mut left = Vec::new(self.alloc);
-        'looks: for i in 0..self.looks.len() {
-            let look = self.looks[i];
-            if look.0 != k {
-                left.push(look)?;
-            }
-        }
-        self.looks = left;
-        Ok(())
-    }
-
-    /// Both show the same values of a record to a segment.
-    fn same_values(&self, rt: &impl Abort, k: u8, place: Place) {
-        let (a, b) = place;
-        let n = self.maps.count(rt, k, a);
-        assert_eq!(rt; n, self.pages.count(rt, k, b));
-        'values: for i in 0..n {
-            let v = self.maps.val(rt, k, a, i);
-            assert!(rt; self.moved(rt, v) == self.pages.val(rt, k, b, i));
-        }
-    }
-
-    /// Both show the same bytes of a string to a segment.
-    fn same_bytes(&self, rt: &impl Abort, k: u8, place: Place) -> Result<(), Fail> {
-        let (a, b) = place;
-        let n = self.maps.len(rt, k, a);
-        assert_eq!(rt; n, self.pages.len(rt, k, b));
-        let mut one = vec![in self.alloc; 0u8; n]?;
-        let mut other = vec![in self.alloc; 1u8; n]?;
-        self.maps.copy_bytes(rt, k, a, 0, &mut one);
-        self.pages.copy_bytes(rt, k, b, 0, &mut other);
-        assert!(rt; one.as_slice() == other.as_slice());
+        self.looks = looks_without(self.alloc, &self.looks, k)?;
         Ok(())
     }
 
@@ -392,62 +251,39 @@ impl<M: SegStore, P: SegStore> Both<M, P> {
         if !there {
             return Ok(());
         }
-        let kind = self.maps.kind(rt, k, a);
-        assert!(rt; kind == self.pages.kind(rt, k, b));
         assert!(rt; self.maps.rooms(rt, k, a) == self.pages.rooms(rt, k, b));
-        match kind {
-            Kind::Str => self.same_bytes(rt, k, place),
-            _ => {
-                self.same_values(rt, k, place);
-                Ok(())
-            }
-        }
+        let one = self.maps.shown(rt, self.alloc, k, a, 0)?;
+        let other = self.pages.shown(rt, self.alloc, k, b, 1)?;
+        same_shown(rt, self.alloc, &self.places, &one, &other)
     }
 
-    /// Both have the same values or bytes of a record in the image.
-    fn same_image(&self, rt: &impl Abort, place: Place) {
+    /// Both have the same of a record in the image.
+    fn same_image(&self, rt: &impl Abort, place: Place) -> Result<(), Fail> {
         let (a, b) = place;
         let there = self.maps.in_image(a);
         assert!(rt; there == self.pages.in_image(b));
         if !there {
-            return;
+            return Ok(());
         }
-        let kind = self.maps.peek_kind(rt, a);
-        assert!(rt; kind == self.pages.peek_kind(rt, b));
-        let n = self.maps.peek_len(rt, a);
-        assert_eq!(rt; n, self.pages.peek_len(rt, b));
-        'items: for i in 0..n {
-            if kind == Kind::Str {
-                assert!(rt; self.maps.peek_byte(rt, a, i) == self.pages.peek_byte(rt, b, i));
-            } else {
-                let v = self.maps.peek_val(rt, a, i);
-                assert!(rt; self.moved(rt, v) == self.pages.peek_val(rt, b, i));
-            }
+        let one = self.maps.peek(rt, self.alloc, a)?;
+        let other = self.pages.peek(rt, self.alloc, b)?;
+        same_shown(rt, self.alloc, &self.places, &one, &other)
+    }
+
+    /// Both show the same of a record to each segment, and have the same of it in the image.
+    fn same_everywhere(&self, rt: &impl Abort, place: Place) -> Result<(), Fail> {
+        'segments: for k in 0..self.maps.segments() {
+            self.same_record(rt, k, place)?;
         }
+        self.same_image(rt, place)
     }
 
     /// Both stores have the same records.
     pub fn same_records(&self, rt: &impl Abort) -> Result<(), Fail> {
-        'places: for i in 0..self.places.len() {
-            let place = self.places[i];
-            'segments: for k in 0..self.maps.segments() {
-                self.same_record(rt, k, place)?;
-            }
-            self.same_image(rt, place);
+        'places: for place in &self.places {
+            self.same_everywhere(rt, *place)?;
         }
         Ok(())
-    }
-
-    /// The segment looked at the record since its transaction began, as each store counts addresses.
-    fn looks_at(&self, k: u8, place: Place) -> (bool, bool) {
-        let mut maps = false;
-        let mut pages = false;
-        'looks: for i in 0..self.looks.len() {
-            let (j, a, b) = self.looks[i];
-            maps = maps || (j == k && a == place.0);
-            pages = pages || (j == k && b == place.1);
-        }
-        (maps, pages)
     }
 
     /// Both have the same locked records of a segment, in one order.
@@ -457,7 +293,23 @@ impl<M: SegStore, P: SegStore> Both<M, P> {
         'locks: for i in 0..n {
             let a = self.maps.changed_at(rt, k, i);
             let b = self.pages.changed_at(rt, k, i);
-            assert!(rt; self.moved(rt, Value::Ref(a)) == Value::Ref(b));
+            assert!(rt; moved(rt, &self.places, Value::Ref(a)) == Value::Ref(b));
+        }
+    }
+
+    /// Both have the looks of a segment at a record that they must have, and the same segment holds it.
+    fn same_look(&self, rt: &impl Abort, k: u8, place: Place) {
+        let (x, y) = looks_at(&self.looks, k, place);
+        assert!(rt; x == self.maps.has_looked(rt, k, place.0));
+        assert!(rt; y == self.pages.has_looked(rt, k, place.1));
+        assert!(rt; self.maps.holder(place.0) == self.pages.holder(place.1));
+    }
+
+    /// Locks, looks and holders of a segment are as they must be.
+    fn same_hand(&self, rt: &impl Abort, k: u8) {
+        self.same_locks(rt, k);
+        'places: for place in &self.places {
+            self.same_look(rt, k, *place);
         }
     }
 
@@ -465,14 +317,7 @@ impl<M: SegStore, P: SegStore> Both<M, P> {
     pub fn same_books(&self, rt: &impl Abort) {
         self.same_words(rt);
         'segments: for k in 0..self.maps.segments() {
-            self.same_locks(rt, k);
-            'places: for i in 0..self.places.len() {
-                let place = self.places[i];
-                let (x, y) = self.looks_at(k, place);
-                assert!(rt; x == self.maps.has_looked(rt, k, place.0));
-                assert!(rt; y == self.pages.has_looked(rt, k, place.1));
-                assert!(rt; self.maps.holder(place.0) == self.pages.holder(place.1));
-            }
+            self.same_hand(rt, k);
         }
     }
 
@@ -514,16 +359,7 @@ impl<M: SegStore, P: SegStore> Both<M, P> {
             return None;
         }
         let from = numbers.below(n);
-        'places: for i in 0..n {
-            let place = self.places[from.wrapping_add(i) % n];
-            if self.maps.there(k, place.0) {
-                let found = self.maps.kind(rt, k, place.0);
-                if kind.is_none() || kind == Some(found) {
-                    return Some(place);
-                }
-            }
-        }
-        None
+        seen_from(rt, &self.maps, &self.places, from, k, kind)
     }
 
     /// The address of a record of a kind, or None.

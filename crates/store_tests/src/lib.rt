@@ -10,6 +10,8 @@ mod both;
 #[cfg(test)]
 mod extents;
 #[cfg(test)]
+mod in_use;
+#[cfg(test)]
 mod index_rows;
 #[cfg(test)]
 mod kinds;
@@ -19,5 +21,7 @@ mod lists;
 mod numbers;
 #[cfg(test)]
 mod page_rows;
+#[cfg(test)]
+mod places;
 #[cfg(test)]
 mod store_rows;

@@ -3,8 +3,9 @@
 ghost use Rattle.std.specs.Prelude.{◌≤◌, ◌<◌};
 
 use crate::acts::{maps, paged};
-use crate::both::{Both, Place};
+use crate::both::Both;
 use crate::numbers::Numbers;
+use crate::places::Place;
 use py_data::{Bytes, Kind, Record, Value, Values};
 use seg_store::SegStore;
 use std::alloc::Global;

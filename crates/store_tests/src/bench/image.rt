@@ -4,9 +4,11 @@ ghost use Rattle.py_data.specs.Heap.{Has, has_bytes, at, length_of};
 
 use super::Bench;
 use crate::kinds::has_bytes;
-use py_data::{Addr, Kind, Value};
+use py_data::{Addr, Bytes, Kind, Record, Value, Values};
 use seg_store::SegStore;
+use std::alloc::Global;
 use std::process::Abort;
+use std::test::Fail;
 
 impl<S: SegStore> Bench<S> {
     /// The length of a record of the image, and whether its kind has bytes.
@@ -43,5 +45,37 @@ impl<S: SegStore> Bench<S> {
         assert!(rt; text);
         assert!(rt; i < n);
         self.store.peek_byte(a, i)
+    }
+
+    fn peek_values(&self, rt: &impl Abort, alloc: Global, a: Addr) -> Result<Values, Fail> {
+        let mut values = Values::new(alloc);
+        'values: for i in 0..self.peek_len(rt, a) {
+            let v = self.peek_val(rt, a, i);
+            values.push(v)?;
+        }
+        Ok(values)
+    }
+
+    fn peek_bytes(&self, rt: &impl Abort, alloc: Global, a: Addr) -> Result<Bytes, Fail> {
+        let mut bytes = Bytes::new(alloc);
+        'bytes: for i in 0..self.peek_len(rt, a) {
+            let byte = self.peek_byte(rt, a, i);
+            bytes.push(byte)?;
+        }
+        Ok(bytes)
+    }
+
+    /// The record that the image has there.
+    pub fn peek(&self, rt: &impl Abort, alloc: Global, a: Addr) -> Result<Record, Fail> {
+        let kind = self.peek_kind(rt, a);
+        let (values, bytes) = match kind {
+            Kind::Str => (Values::new(alloc), self.peek_bytes(rt, alloc, a)?),
+            _ => (self.peek_values(rt, alloc, a)?, Bytes::new(alloc)),
+        };
+        Ok(Record {
+            kind,
+            values,
+            bytes,
+        })
     }
 }
