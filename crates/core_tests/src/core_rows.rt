@@ -84,6 +84,20 @@ pub(crate) fn play(
     Ok(())
 }
 
+/// The step of thread 0, which is turn 0.
+fn first_turn(rt: &impl Abort, core: &mut MemCore<'_>) -> Tested
+    requires { IsGoodScriptCore core.old }
+    ensures { IsGoodScriptCore core.new }
+{
+    let list = [Event::Begin(0, 0), Event::Advance(0, 1), Event::Commit(0)];
+    let wanted = [
+        Reply::Begun,
+        Reply::Advanced(Advance::Ended(1)),
+        Reply::Committed(0),
+    ];
+    play(rt, core, &list, &wanted)
+}
+
 /// A core after the step of thread 0, which is turn 0.
 pub(crate) fn begun<'p>(
     rt: &impl Abort,
@@ -107,13 +121,7 @@ pub(crate) fn begun_over<'p>(
     ensures { IfOk result IsGoodScriptCore }
 {
     let mut core = core(rt, alloc, client, budget, out)?;
-    let list = [Event::Begin(0, 0), Event::Advance(0, 1), Event::Commit(0)];
-    let wanted = [
-        Reply::Begun,
-        Reply::Advanced(Advance::Ended(1)),
-        Reply::Committed(0),
-    ];
-    play(rt, &mut core, &list, &wanted)?;
+    first_turn(rt, &mut core)?;
     Ok(core)
 }
 

@@ -5,13 +5,14 @@ ghost use Rattle.lock_run.specs.Script.{ScriptSound};
 ghost use Rattle.stm_io.specs.Memory.{mem_sink_state, mem_source_state};
 
 use crate::core_rows::{Tested, begun, script_of, sink, source};
-use crate::machine_rows::{MemRun, output};
 use lock_run::{Act, Acts, History, LockRun, Script, Turn};
 use std::alloc::Global;
 use std::process::Abort;
 use std::test;
 use stm_core::{Event, Reply};
-use stm_io::MemSink;
+use stm_io::{MemSink, MemSource};
+
+type MemRun<'p> = LockRun<'p, Script, MemSource, MemSink, MemSink>;
 
 /// The next number of a row of numbers, from 0 to 65,535, that look like any.
 fn draw(seed: &mut u32) -> u32 {
@@ -83,6 +84,12 @@ fn machine<'p>(alloc: Global, client: &'p Script) -> Result<MemRun<'p>, test::Fa
         Ok(run) => Ok(run),
         Err(_) => Err("no memory".into()),
     }
+}
+
+/// The output of a machine that is finished.
+fn output(run: MemRun<'_>) -> MemSink {
+    let (_, out, _) = run.finish();
+    out
 }
 
 /// The machine does a turn, with the names that it gave.

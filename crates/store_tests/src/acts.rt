@@ -1,11 +1,12 @@
 //! Acts of rows on a store under test.
-use crate::bench::Bench;
+use crate::judge::Judge;
 use paged_store::PagedStore;
 use py_data::{Addr, Bytes, Kind, Record, Value, Values};
 use seg_store::{PlainStore, SegStore, StoreFault};
 use std::alloc::Global;
 use std::process::Abort;
 use std::test::Fail;
+use store_bench::Bench;
 
 /// A store of maps.
 pub fn maps(rt: &impl Abort, alloc: Global, segments: u8) -> Result<Bench<PlainStore>, Fail> {
@@ -39,7 +40,7 @@ pub fn record(alloc: Global, kind: Kind, values: &[Value]) -> Result<Record, Fai
 
 /// Makes a record with a few values.
 pub fn make<S: SegStore>(
-    rt: &impl Abort,
+    rt: &Judge<impl Abort>,
     alloc: Global,
     store: &mut Bench<S>,
     k: u8,
@@ -47,12 +48,12 @@ pub fn make<S: SegStore>(
     values: &[Value],
 ) -> Result<Addr, Fail> {
     let r = record(alloc, kind, values)?;
-    store.make(rt, k, &r)
+    Ok(store.make(rt, k, &r)?)
 }
 
 /// A cell that holds a number.
 pub fn make_cell<S: SegStore>(
-    rt: &impl Abort,
+    rt: &Judge<impl Abort>,
     alloc: Global,
     store: &mut Bench<S>,
     k: u8,
@@ -63,7 +64,7 @@ pub fn make_cell<S: SegStore>(
 
 /// Makes a string.
 pub fn make_text<S: SegStore>(
-    rt: &impl Abort,
+    rt: &Judge<impl Abort>,
     alloc: Global,
     store: &mut Bench<S>,
     k: u8,
@@ -74,12 +75,12 @@ pub fn make_text<S: SegStore>(
         values: Values::new(alloc),
         bytes: Bytes::from_slice(alloc, text)?,
     };
-    store.make(rt, k, &r)
+    Ok(store.make(rt, k, &r)?)
 }
 
 /// What a make is refused with, as reserved, need and limit.
 pub fn refused<S: SegStore>(
-    rt: &impl Abort,
+    rt: &Judge<impl Abort>,
     alloc: Global,
     store: &mut Bench<S>,
     k: u8,
@@ -101,7 +102,7 @@ pub fn refused<S: SegStore>(
 
 /// What a push is refused with.
 pub fn refused_push<S: SegStore>(
-    rt: &impl Abort,
+    rt: &Judge<impl Abort>,
     store: &mut Bench<S>,
     k: u8,
     a: Addr,
@@ -120,7 +121,7 @@ pub fn refused_push<S: SegStore>(
 
 /// What a pair is refused with.
 pub fn refused_pair<S: SegStore>(
-    rt: &impl Abort,
+    rt: &Judge<impl Abort>,
     store: &mut Bench<S>,
     k: u8,
     d: Addr,
@@ -139,7 +140,13 @@ pub fn refused_pair<S: SegStore>(
 }
 
 /// The number that a segment sees in a place.
-pub fn number<S: SegStore>(rt: &impl Abort, store: &Bench<S>, k: u8, a: Addr, i: usize) -> i64 {
+pub fn number<S: SegStore>(
+    rt: &Judge<impl Abort>,
+    store: &Bench<S>,
+    k: u8,
+    a: Addr,
+    i: usize,
+) -> i64 {
     match store.val(rt, k, a, i) {
         Value::Int(n) => n,
         v => panic!(rt; "{v:?}"),
@@ -148,7 +155,7 @@ pub fn number<S: SegStore>(rt: &impl Abort, store: &Bench<S>, k: u8, a: Addr, i:
 
 /// The length, the room and the first room of a record.
 pub fn size<S: SegStore>(
-    rt: &impl Abort,
+    rt: &Judge<impl Abort>,
     store: &Bench<S>,
     k: u8,
     a: Addr,
@@ -159,7 +166,7 @@ pub fn size<S: SegStore>(
 
 /// Pushes the numbers from one below another.
 pub fn push_numbers<S: SegStore>(
-    rt: &impl Abort,
+    rt: &Judge<impl Abort>,
     store: &mut Bench<S>,
     k: u8,
     a: Addr,
@@ -173,7 +180,7 @@ pub fn push_numbers<S: SegStore>(
 
 /// Puts pairs, whose keys are the numbers from one below another, and whose values are `base` behind them.
 pub fn put_numbers<S: SegStore>(
-    rt: &impl Abort,
+    rt: &Judge<impl Abort>,
     store: &mut Bench<S>,
     k: u8,
     d: Addr,
@@ -188,7 +195,7 @@ pub fn put_numbers<S: SegStore>(
 
 /// A list has the numbers from one on, and as many as are below another.
 pub fn has_numbers<S: SegStore>(
-    rt: &impl Abort,
+    rt: &Judge<impl Abort>,
     store: &Bench<S>,
     k: u8,
     a: Addr,
@@ -208,7 +215,7 @@ pub fn has_numbers<S: SegStore>(
 
 /// The segment sees the string.
 pub fn has_text<S: SegStore>(
-    rt: &impl Abort,
+    rt: &Judge<impl Abort>,
     alloc: Global,
     store: &Bench<S>,
     k: u8,

@@ -1,12 +1,13 @@
 //! Rows of what finds keys and of what notes looks: a long dictionary, keys that are equal, and more transactions than
 //! a byte has numbers. Each row is tried on a store of maps and on a store of pages.
 use crate::acts::{make, make_cell, maps, paged, put_numbers};
-use crate::bench::Bench;
+use crate::judge::Judge;
 use py_data::{Addr, Kind, Value};
 use seg_store::SegStore;
 use std::alloc::Global;
 use std::process::Abort;
 use std::test::Fail;
+use store_bench::Bench;
 
 type Tested = Result<(), Fail>;
 
@@ -23,7 +24,7 @@ fn place_of(n: u32) -> Option<usize> {
 }
 
 /// The segment finds each even key of the long dictionary at its place, and no odd one.
-fn finds_even_keys<S: SegStore>(rt: &impl Abort, store: &Bench<S>, k: u8, d: Addr) -> bool {
+fn finds_even_keys<S: SegStore>(rt: &Judge<impl Abort>, store: &Bench<S>, k: u8, d: Addr) -> bool {
     'keys: for n in 0..KEYS {
         if store.find_key(rt, k, d, Value::Int(i64::from(n))) != place_of(n) {
             return false;
@@ -33,7 +34,7 @@ fn finds_even_keys<S: SegStore>(rt: &impl Abort, store: &Bench<S>, k: u8, d: Add
 }
 
 /// Of so many keys every second one is dropped, from the last one down, by a segment that didn't make them.
-fn every_second<S: SegStore>(rt: &impl Abort, alloc: Global, mut store: Bench<S>) -> Tested {
+fn every_second<S: SegStore>(rt: &Judge<impl Abort>, alloc: Global, mut store: Bench<S>) -> Tested {
     let d = make(rt, alloc, &mut store, 0, Kind::Dict, &[])?;
     put_numbers(rt, &mut store, 0, d, (0, KEYS), 0);
     store.publish(rt, alloc, 0)?;
@@ -48,16 +49,16 @@ fn every_second<S: SegStore>(rt: &impl Abort, alloc: Global, mut store: Bench<S>
 
 #[test]
 fn every_second_maps(rt: HostRuntime) -> Tested {
-    every_second(&rt, rt.alloc(), maps(&rt, rt.alloc(), 2)?)
+    every_second(&Judge(&rt), rt.alloc(), maps(&rt, rt.alloc(), 2)?)
 }
 
 #[test]
 fn every_second_pages(rt: HostRuntime) -> Tested {
-    every_second(&rt, rt.alloc(), paged(&rt, rt.alloc(), 2, 32)?)
+    every_second(&Judge(&rt), rt.alloc(), paged(&rt, rt.alloc(), 2, 32)?)
 }
 
 /// A truth value is the key of its number, and a number the key of its truth value.
-fn truth_values<S: SegStore>(rt: &impl Abort, alloc: Global, mut store: Bench<S>) -> Tested {
+fn truth_values<S: SegStore>(rt: &Judge<impl Abort>, alloc: Global, mut store: Bench<S>) -> Tested {
     let d = make(rt, alloc, &mut store, 0, Kind::Dict, &[])?;
     store.pair(rt, 0, d, Value::Int(1), Value::None);
     assert!(rt; store.find_key(rt, 0, d, Value::Bool(true)) == Some(0));
@@ -71,17 +72,17 @@ fn truth_values<S: SegStore>(rt: &impl Abort, alloc: Global, mut store: Bench<S>
 
 #[test]
 fn truth_values_maps(rt: HostRuntime) -> Tested {
-    truth_values(&rt, rt.alloc(), maps(&rt, rt.alloc(), 1)?)
+    truth_values(&Judge(&rt), rt.alloc(), maps(&rt, rt.alloc(), 1)?)
 }
 
 #[test]
 fn truth_values_pages(rt: HostRuntime) -> Tested {
-    truth_values(&rt, rt.alloc(), paged(&rt, rt.alloc(), 1, 1)?)
+    truth_values(&Judge(&rt), rt.alloc(), paged(&rt, rt.alloc(), 1, 1)?)
 }
 
 /// A segment looks at one cell and commits, and then looks at another in each of 254 commits more. In the transaction
 /// behind them it has looked at neither.
-fn old_looks<S: SegStore>(rt: &impl Abort, alloc: Global, mut store: Bench<S>) -> Tested {
+fn old_looks<S: SegStore>(rt: &Judge<impl Abort>, alloc: Global, mut store: Bench<S>) -> Tested {
     let a = make_cell(rt, alloc, &mut store, 0, 5)?;
     let b = make_cell(rt, alloc, &mut store, 0, 6)?;
     store.publish(rt, alloc, 0)?;
@@ -105,10 +106,10 @@ fn old_looks<S: SegStore>(rt: &impl Abort, alloc: Global, mut store: Bench<S>) -
 
 #[test]
 fn old_looks_maps(rt: HostRuntime) -> Tested {
-    old_looks(&rt, rt.alloc(), maps(&rt, rt.alloc(), 2)?)
+    old_looks(&Judge(&rt), rt.alloc(), maps(&rt, rt.alloc(), 2)?)
 }
 
 #[test]
 fn old_looks_pages(rt: HostRuntime) -> Tested {
-    old_looks(&rt, rt.alloc(), paged(&rt, rt.alloc(), 2, 1)?)
+    old_looks(&Judge(&rt), rt.alloc(), paged(&rt, rt.alloc(), 2, 1)?)
 }

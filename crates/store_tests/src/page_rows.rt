@@ -4,18 +4,19 @@ use crate::acts::{
     has_numbers, has_text, make, make_text, number, paged, push_numbers, put_numbers, refused,
     refused_pair, refused_push, size,
 };
-use crate::bench::Bench;
+use crate::judge::Judge;
 use py_data::{Addr, Kind, Value};
 use seg_store::SegStore;
 use std::alloc::Global;
 use std::process::Abort;
 use std::test::Fail;
+use store_bench::Bench;
 
 type Tested = Result<(), Fail>;
 
 /// Makes so many empty Lists.
 fn make_lists<S: SegStore>(
-    rt: &impl Abort,
+    rt: &Judge<impl Abort>,
     alloc: Global,
     store: &mut Bench<S>,
     k: u8,
@@ -28,7 +29,11 @@ fn make_lists<S: SegStore>(
 }
 
 /// One page has 512 words, of which two are taken at first: 127 headers of 4 words leave 2.
-fn fill_one_page<S: SegStore>(rt: &impl Abort, alloc: Global, mut store: Bench<S>) -> Tested {
+fn fill_one_page<S: SegStore>(
+    rt: &Judge<impl Abort>,
+    alloc: Global,
+    mut store: Bench<S>,
+) -> Tested {
     assert!(rt; store.segments() == 2 && store.limit() == 512);
     assert_eq!(rt; store.reserved(), 2);
     let a = make(rt, alloc, &mut store, 0, Kind::List, &[])?;
@@ -47,11 +52,15 @@ fn fill_one_page<S: SegStore>(rt: &impl Abort, alloc: Global, mut store: Bench<S
 
 #[test]
 fn one_page_is_full(rt: HostRuntime) -> Tested {
-    fill_one_page(&rt, rt.alloc(), paged(&rt, rt.alloc(), 2, 1)?)
+    fill_one_page(&Judge(&rt), rt.alloc(), paged(&rt, rt.alloc(), 2, 1)?)
 }
 
 /// A List of the full heap takes the last two words for its first body, and has none for the next.
-fn take_last_words<S: SegStore>(rt: &impl Abort, alloc: Global, mut store: Bench<S>) -> Tested {
+fn take_last_words<S: SegStore>(
+    rt: &Judge<impl Abort>,
+    alloc: Global,
+    mut store: Bench<S>,
+) -> Tested {
     let a = make(rt, alloc, &mut store, 0, Kind::List, &[])?;
     store.publish(rt, alloc, 0)?;
     make_lists(rt, alloc, &mut store, 1, 126)?;
@@ -67,11 +76,15 @@ fn take_last_words<S: SegStore>(rt: &impl Abort, alloc: Global, mut store: Bench
 
 #[test]
 fn last_words(rt: HostRuntime) -> Tested {
-    take_last_words(&rt, rt.alloc(), paged(&rt, rt.alloc(), 2, 1)?)
+    take_last_words(&Judge(&rt), rt.alloc(), paged(&rt, rt.alloc(), 2, 1)?)
 }
 
 /// A header that is taken for a record whose body can't be had is given back, and stays reserved.
-fn make_without_body<S: SegStore>(rt: &impl Abort, alloc: Global, mut store: Bench<S>) -> Tested {
+fn make_without_body<S: SegStore>(
+    rt: &Judge<impl Abort>,
+    alloc: Global,
+    mut store: Bench<S>,
+) -> Tested {
     make_lists(rt, alloc, &mut store, 0, 126)?;
     assert_eq!(rt; store.reserved(), 506);
     let four = [Value::None, Value::None, Value::None, Value::None];
@@ -84,11 +97,15 @@ fn make_without_body<S: SegStore>(rt: &impl Abort, alloc: Global, mut store: Ben
 
 #[test]
 fn header_without_body(rt: HostRuntime) -> Tested {
-    make_without_body(&rt, rt.alloc(), paged(&rt, rt.alloc(), 1, 1)?)
+    make_without_body(&Judge(&rt), rt.alloc(), paged(&rt, rt.alloc(), 1, 1)?)
 }
 
 /// A Dict whose next body is there, but not its next index: the body is given back.
-fn pair_without_index<S: SegStore>(rt: &impl Abort, alloc: Global, mut store: Bench<S>) -> Tested {
+fn pair_without_index<S: SegStore>(
+    rt: &Judge<impl Abort>,
+    alloc: Global,
+    mut store: Bench<S>,
+) -> Tested {
     let d = make(rt, alloc, &mut store, 0, Kind::Dict, &[])?;
     assert_eq!(rt; store.reserved(), 12);
     put_numbers(rt, &mut store, 0, d, (0, 1), 10);
@@ -108,11 +125,11 @@ fn pair_without_index<S: SegStore>(rt: &impl Abort, alloc: Global, mut store: Be
 
 #[test]
 fn body_without_index(rt: HostRuntime) -> Tested {
-    pair_without_index(&rt, rt.alloc(), paged(&rt, rt.alloc(), 1, 1)?)
+    pair_without_index(&Judge(&rt), rt.alloc(), paged(&rt, rt.alloc(), 1, 1)?)
 }
 
 /// What a step that is taken back or a transaction that is dropped gave back is taken again.
-fn take_again<S: SegStore>(rt: &impl Abort, alloc: Global, mut store: Bench<S>) -> Tested {
+fn take_again<S: SegStore>(rt: &Judge<impl Abort>, alloc: Global, mut store: Bench<S>) -> Tested {
     store.open_step(rt, 0);
     make_lists(rt, alloc, &mut store, 0, 127)?;
     store.undo_step(rt, 0);
@@ -128,11 +145,15 @@ fn take_again<S: SegStore>(rt: &impl Abort, alloc: Global, mut store: Bench<S>) 
 
 #[test]
 fn taken_again(rt: HostRuntime) -> Tested {
-    take_again(&rt, rt.alloc(), paged(&rt, rt.alloc(), 2, 1)?)
+    take_again(&Judge(&rt), rt.alloc(), paged(&rt, rt.alloc(), 2, 1)?)
 }
 
 /// Makes records whose words, with the first two, are 1,684, and answers a List of 256 numbers among them.
-fn worked<S: SegStore>(rt: &impl Abort, alloc: Global, store: &mut Bench<S>) -> Result<Addr, Fail> {
+fn worked<S: SegStore>(
+    rt: &Judge<impl Abort>,
+    alloc: Global,
+    store: &mut Bench<S>,
+) -> Result<Addr, Fail> {
     let a = make(rt, alloc, store, 0, Kind::List, &[])?;
     push_numbers(rt, store, 0, a, 0, 256);
     make(rt, alloc, store, 0, Kind::List, &[])?;
@@ -166,7 +187,11 @@ fn worked<S: SegStore>(rt: &impl Abort, alloc: Global, store: &mut Bench<S>) -> 
 }
 
 /// The next body of a List of 256 values has 1,024 words.
-fn grow_past_limit<S: SegStore>(rt: &impl Abort, alloc: Global, mut store: Bench<S>) -> Tested {
+fn grow_past_limit<S: SegStore>(
+    rt: &Judge<impl Abort>,
+    alloc: Global,
+    mut store: Bench<S>,
+) -> Tested {
     let a = worked(rt, alloc, &mut store)?;
     assert_eq!(rt; size(rt, &store, 0, a), (256, 256, 0));
     assert!(rt; refused_push(rt, &mut store, 0, a) == (1_684, 1_024, 2_048));
@@ -184,12 +209,12 @@ fn grow_past_limit<S: SegStore>(rt: &impl Abort, alloc: Global, mut store: Bench
 
 #[test]
 fn next_body(rt: HostRuntime) -> Tested {
-    grow_past_limit(&rt, rt.alloc(), paged(&rt, rt.alloc(), 2, 4)?)
+    grow_past_limit(&Judge(&rt), rt.alloc(), paged(&rt, rt.alloc(), 2, 4)?)
 }
 
 /// Makes a List of two numbers.
 fn make_pair<S: SegStore>(
-    rt: &impl Abort,
+    rt: &Judge<impl Abort>,
     alloc: Global,
     store: &mut Bench<S>,
     first: i64,
@@ -207,7 +232,7 @@ fn make_pair<S: SegStore>(
 
 /// A segment sees these two numbers in a List.
 fn has_pair<S: SegStore>(
-    rt: &impl Abort,
+    rt: &Judge<impl Abort>,
     store: &Bench<S>,
     k: u8,
     a: Addr,
@@ -218,7 +243,11 @@ fn has_pair<S: SegStore>(
 }
 
 /// What one segment wrote is not seen by the other before it is published, and by both after.
-fn write_own_pages<S: SegStore>(rt: &impl Abort, alloc: Global, mut store: Bench<S>) -> Tested {
+fn write_own_pages<S: SegStore>(
+    rt: &Judge<impl Abort>,
+    alloc: Global,
+    mut store: Bench<S>,
+) -> Tested {
     let a = make_pair(rt, alloc, &mut store, 1, 2)?;
     let b = make_pair(rt, alloc, &mut store, 3, 4)?;
     store.publish(rt, alloc, 0)?;
@@ -238,12 +267,12 @@ fn write_own_pages<S: SegStore>(rt: &impl Abort, alloc: Global, mut store: Bench
 
 #[test]
 fn own_pages(rt: HostRuntime) -> Tested {
-    write_own_pages(&rt, rt.alloc(), paged(&rt, rt.alloc(), 2, 2)?)
+    write_own_pages(&Judge(&rt), rt.alloc(), paged(&rt, rt.alloc(), 2, 2)?)
 }
 
 /// Two Lists of 600 numbers, whose bodies span pages.
 fn two_lists<S: SegStore>(
-    rt: &impl Abort,
+    rt: &Judge<impl Abort>,
     alloc: Global,
     store: &mut Bench<S>,
 ) -> Result<(Addr, Addr), Fail> {
@@ -261,7 +290,11 @@ fn two_lists<S: SegStore>(
 }
 
 /// Two segments change records that share pages; one publishes and the other drops.
-fn write_shared_pages<S: SegStore>(rt: &impl Abort, alloc: Global, mut store: Bench<S>) -> Tested {
+fn write_shared_pages<S: SegStore>(
+    rt: &Judge<impl Abort>,
+    alloc: Global,
+    mut store: Bench<S>,
+) -> Tested {
     let (a, b) = two_lists(rt, alloc, &mut store)?;
     store.lock(rt, 0, a);
     store.lock(rt, 1, b);
@@ -284,11 +317,15 @@ fn write_shared_pages<S: SegStore>(rt: &impl Abort, alloc: Global, mut store: Be
 
 #[test]
 fn shared_pages(rt: HostRuntime) -> Tested {
-    write_shared_pages(&rt, rt.alloc(), paged(&rt, rt.alloc(), 3, 32)?)
+    write_shared_pages(&Judge(&rt), rt.alloc(), paged(&rt, rt.alloc(), 3, 32)?)
 }
 
 /// Strings that span pages, between Lists that two segments change.
-fn keep_long_strings<S: SegStore>(rt: &impl Abort, alloc: Global, mut store: Bench<S>) -> Tested {
+fn keep_long_strings<S: SegStore>(
+    rt: &Judge<impl Abort>,
+    alloc: Global,
+    mut store: Bench<S>,
+) -> Tested {
     let mut text = vec![in alloc; 7u8; 5_000]?;
     text[0] = 255;
     text[4_095] = 1;
@@ -319,11 +356,11 @@ fn keep_long_strings<S: SegStore>(rt: &impl Abort, alloc: Global, mut store: Ben
 
 #[test]
 fn long_strings(rt: HostRuntime) -> Tested {
-    keep_long_strings(&rt, rt.alloc(), paged(&rt, rt.alloc(), 2, 16)?)
+    keep_long_strings(&Judge(&rt), rt.alloc(), paged(&rt, rt.alloc(), 2, 16)?)
 }
 
 /// A List that grew twice, and is dropped, has its old body again.
-fn drop_growth<S: SegStore>(rt: &impl Abort, alloc: Global, mut store: Bench<S>) -> Tested {
+fn drop_growth<S: SegStore>(rt: &Judge<impl Abort>, alloc: Global, mut store: Bench<S>) -> Tested {
     let a = make(rt, alloc, &mut store, 0, Kind::List, &[])?;
     push_numbers(rt, &mut store, 0, a, 0, 4);
     store.publish(rt, alloc, 0)?;
@@ -347,11 +384,15 @@ fn drop_growth<S: SegStore>(rt: &impl Abort, alloc: Global, mut store: Bench<S>)
 
 #[test]
 fn growth_is_dropped(rt: HostRuntime) -> Tested {
-    drop_growth(&rt, rt.alloc(), paged(&rt, rt.alloc(), 2, 4)?)
+    drop_growth(&Judge(&rt), rt.alloc(), paged(&rt, rt.alloc(), 2, 4)?)
 }
 
 /// A step in which a List grew twice is taken back, and done again.
-fn take_growth_back<S: SegStore>(rt: &impl Abort, alloc: Global, mut store: Bench<S>) -> Tested {
+fn take_growth_back<S: SegStore>(
+    rt: &Judge<impl Abort>,
+    alloc: Global,
+    mut store: Bench<S>,
+) -> Tested {
     let a = make(rt, alloc, &mut store, 0, Kind::List, &[])?;
     push_numbers(rt, &mut store, 0, a, 0, 4);
     store.publish(rt, alloc, 0)?;
@@ -376,7 +417,7 @@ fn take_growth_back<S: SegStore>(rt: &impl Abort, alloc: Global, mut store: Benc
 
 #[test]
 fn growth_is_taken_back(rt: HostRuntime) -> Tested {
-    take_growth_back(&rt, rt.alloc(), paged(&rt, rt.alloc(), 2, 4)?)
+    take_growth_back(&Judge(&rt), rt.alloc(), paged(&rt, rt.alloc(), 2, 4)?)
 }
 
 /// The place of a key after the pairs of the numbers from 11 to 20 were dropped.
@@ -391,7 +432,7 @@ fn place_after(n: u32) -> Option<usize> {
 }
 
 /// A Dict that grew over several classes, with pairs dropped in the middle.
-fn drop_pairs<S: SegStore>(rt: &impl Abort, alloc: Global, mut store: Bench<S>) -> Tested {
+fn drop_pairs<S: SegStore>(rt: &Judge<impl Abort>, alloc: Global, mut store: Bench<S>) -> Tested {
     let d = make(rt, alloc, &mut store, 0, Kind::Dict, &[])?;
     put_numbers(rt, &mut store, 0, d, (0, 40), 500);
     assert_eq!(rt; size(rt, &store, 0, d), (80, 128, 2));
@@ -418,12 +459,12 @@ fn drop_pairs<S: SegStore>(rt: &impl Abort, alloc: Global, mut store: Bench<S>) 
 
 #[test]
 fn pairs_are_dropped(rt: HostRuntime) -> Tested {
-    drop_pairs(&rt, rt.alloc(), paged(&rt, rt.alloc(), 2, 4)?)
+    drop_pairs(&Judge(&rt), rt.alloc(), paged(&rt, rt.alloc(), 2, 4)?)
 }
 
 /// The pair of a number has this key, and 500 more as its value.
 fn has_pair_of<S: SegStore>(
-    rt: &impl Abort,
+    rt: &Judge<impl Abort>,
     store: &Bench<S>,
     k: u8,
     d: Addr,
@@ -436,7 +477,11 @@ fn has_pair_of<S: SegStore>(
 }
 
 /// A Dict whose body spans pages, with pairs dropped near its front.
-fn drop_in_long_dict<S: SegStore>(rt: &impl Abort, alloc: Global, mut store: Bench<S>) -> Tested {
+fn drop_in_long_dict<S: SegStore>(
+    rt: &Judge<impl Abort>,
+    alloc: Global,
+    mut store: Bench<S>,
+) -> Tested {
     let d = make(rt, alloc, &mut store, 0, Kind::Dict, &[])?;
     put_numbers(rt, &mut store, 0, d, (0, 200), 500);
     assert_eq!(rt; size(rt, &store, 0, d), (400, 512, 2));
@@ -459,12 +504,12 @@ fn drop_in_long_dict<S: SegStore>(rt: &impl Abort, alloc: Global, mut store: Ben
 
 #[test]
 fn long_dict(rt: HostRuntime) -> Tested {
-    drop_in_long_dict(&rt, rt.alloc(), paged(&rt, rt.alloc(), 2, 16)?)
+    drop_in_long_dict(&Judge(&rt), rt.alloc(), paged(&rt, rt.alloc(), 2, 16)?)
 }
 
 /// Each segment below 8 makes a cell, which holds its number, and publishes it.
 fn make_cells<S: SegStore>(
-    rt: &impl Abort,
+    rt: &Judge<impl Abort>,
     alloc: Global,
     store: &mut Bench<S>,
 ) -> Result<Vec<Addr>, Fail> {
@@ -481,7 +526,7 @@ fn make_cells<S: SegStore>(
 
 /// The number that a segment sees in another one's cell.
 fn cell_number<S: SegStore>(
-    rt: &impl Abort,
+    rt: &Judge<impl Abort>,
     store: &Bench<S>,
     cells: &[Addr],
     k: u8,
@@ -494,7 +539,7 @@ fn cell_number<S: SegStore>(
 }
 
 /// A segment locks its cell, and adds 100 to its number.
-fn change_cell<S: SegStore>(rt: &impl Abort, store: &mut Bench<S>, cells: &[Addr], k: u8) {
+fn change_cell<S: SegStore>(rt: &Judge<impl Abort>, store: &mut Bench<S>, cells: &[Addr], k: u8) {
     match cells.get(k as usize) {
         Some(a) => {
             store.lock(rt, k, *a);
@@ -505,7 +550,11 @@ fn change_cell<S: SegStore>(rt: &impl Abort, store: &mut Bench<S>, cells: &[Addr
 }
 
 /// Eight segments with a cell each in one page: each changes its own, and the even ones publish.
-fn change_eight_cells<S: SegStore>(rt: &impl Abort, alloc: Global, mut store: Bench<S>) -> Tested {
+fn change_eight_cells<S: SegStore>(
+    rt: &Judge<impl Abort>,
+    alloc: Global,
+    mut store: Bench<S>,
+) -> Tested {
     let cells = make_cells(rt, alloc, &mut store)?;
     'changes: for k in 0..8u8 {
         change_cell(rt, &mut store, &cells, k);
@@ -534,5 +583,5 @@ fn change_eight_cells<S: SegStore>(rt: &impl Abort, alloc: Global, mut store: Be
 
 #[test]
 fn eight_segments(rt: HostRuntime) -> Tested {
-    change_eight_cells(&rt, rt.alloc(), paged(&rt, rt.alloc(), 8, 1)?)
+    change_eight_cells(&Judge(&rt), rt.alloc(), paged(&rt, rt.alloc(), 8, 1)?)
 }

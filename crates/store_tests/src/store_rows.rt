@@ -1,17 +1,18 @@
 //! Rows of a store with one or two segments: a cell that both see, a list, dictionaries and a string. Each row is tried
 //! on a store of maps and on a store of pages.
 use crate::acts::{make, make_cell, make_text, maps, number, paged, push_numbers, size};
-use crate::bench::Bench;
+use crate::judge::Judge;
 use py_data::{Addr, Kind, Value};
 use seg_store::SegStore;
 use std::alloc::Global;
 use std::process::Abort;
 use std::test::Fail;
+use store_bench::Bench;
 
 type Tested = Result<(), Fail>;
 
 /// Made records are seen by their segment alone before they are published, and by both after.
-fn published<S: SegStore>(rt: &impl Abort, alloc: Global, mut store: Bench<S>) -> Tested {
+fn published<S: SegStore>(rt: &Judge<impl Abort>, alloc: Global, mut store: Bench<S>) -> Tested {
     let a = make_cell(rt, alloc, &mut store, 0, 5)?;
     let b = make_cell(rt, alloc, &mut store, 0, 6)?;
     assert!(rt; a.0 != b.0);
@@ -27,17 +28,17 @@ fn published<S: SegStore>(rt: &impl Abort, alloc: Global, mut store: Bench<S>) -
 
 #[test]
 fn published_maps(rt: HostRuntime) -> Tested {
-    published(&rt, rt.alloc(), maps(&rt, rt.alloc(), 2)?)
+    published(&Judge(&rt), rt.alloc(), maps(&rt, rt.alloc(), 2)?)
 }
 
 #[test]
 fn published_pages(rt: HostRuntime) -> Tested {
-    published(&rt, rt.alloc(), paged(&rt, rt.alloc(), 2, 1)?)
+    published(&Judge(&rt), rt.alloc(), paged(&rt, rt.alloc(), 2, 1)?)
 }
 
 /// A cell of the image, which holds 5.
 fn one_cell<S: SegStore>(
-    rt: &impl Abort,
+    rt: &Judge<impl Abort>,
     alloc: Global,
     store: &mut Bench<S>,
 ) -> Result<Addr, Fail> {
@@ -47,7 +48,11 @@ fn one_cell<S: SegStore>(
 }
 
 /// A locked record is changed for its segment alone; dropped, it is the image's again. The look stays.
-fn locked_and_dropped<S: SegStore>(rt: &impl Abort, alloc: Global, mut store: Bench<S>) -> Tested {
+fn locked_and_dropped<S: SegStore>(
+    rt: &Judge<impl Abort>,
+    alloc: Global,
+    mut store: Bench<S>,
+) -> Tested {
     let a = one_cell(rt, alloc, &mut store)?;
     store.lock(rt, 1, a);
     assert_eq!(rt; store.changed_len(rt, 1), 1);
@@ -65,16 +70,16 @@ fn locked_and_dropped<S: SegStore>(rt: &impl Abort, alloc: Global, mut store: Be
 
 #[test]
 fn locked_and_dropped_maps(rt: HostRuntime) -> Tested {
-    locked_and_dropped(&rt, rt.alloc(), maps(&rt, rt.alloc(), 2)?)
+    locked_and_dropped(&Judge(&rt), rt.alloc(), maps(&rt, rt.alloc(), 2)?)
 }
 
 #[test]
 fn locked_and_dropped_pages(rt: HostRuntime) -> Tested {
-    locked_and_dropped(&rt, rt.alloc(), paged(&rt, rt.alloc(), 2, 1)?)
+    locked_and_dropped(&Judge(&rt), rt.alloc(), paged(&rt, rt.alloc(), 2, 1)?)
 }
 
 /// A step that is taken back leaves what stood before it, and the lock.
-fn taken_back<S: SegStore>(rt: &impl Abort, alloc: Global, mut store: Bench<S>) -> Tested {
+fn taken_back<S: SegStore>(rt: &Judge<impl Abort>, alloc: Global, mut store: Bench<S>) -> Tested {
     let a = one_cell(rt, alloc, &mut store)?;
     store.lock(rt, 1, a);
     store.set(rt, 1, a, 0, Value::Int(7));
@@ -91,16 +96,16 @@ fn taken_back<S: SegStore>(rt: &impl Abort, alloc: Global, mut store: Bench<S>) 
 
 #[test]
 fn taken_back_maps(rt: HostRuntime) -> Tested {
-    taken_back(&rt, rt.alloc(), maps(&rt, rt.alloc(), 2)?)
+    taken_back(&Judge(&rt), rt.alloc(), maps(&rt, rt.alloc(), 2)?)
 }
 
 #[test]
 fn taken_back_pages(rt: HostRuntime) -> Tested {
-    taken_back(&rt, rt.alloc(), paged(&rt, rt.alloc(), 2, 1)?)
+    taken_back(&Judge(&rt), rt.alloc(), paged(&rt, rt.alloc(), 2, 1)?)
 }
 
 /// A begin forgets the looks of its segment alone.
-fn begun<S: SegStore>(rt: &impl Abort, alloc: Global, mut store: Bench<S>) -> Tested {
+fn begun<S: SegStore>(rt: &Judge<impl Abort>, alloc: Global, mut store: Bench<S>) -> Tested {
     let a = one_cell(rt, alloc, &mut store)?;
     store.mark(rt, 1, a);
     store.mark(rt, 1, a);
@@ -114,17 +119,17 @@ fn begun<S: SegStore>(rt: &impl Abort, alloc: Global, mut store: Bench<S>) -> Te
 
 #[test]
 fn begun_maps(rt: HostRuntime) -> Tested {
-    begun(&rt, rt.alloc(), maps(&rt, rt.alloc(), 2)?)
+    begun(&Judge(&rt), rt.alloc(), maps(&rt, rt.alloc(), 2)?)
 }
 
 #[test]
 fn begun_pages(rt: HostRuntime) -> Tested {
-    begun(&rt, rt.alloc(), paged(&rt, rt.alloc(), 2, 1)?)
+    begun(&Judge(&rt), rt.alloc(), paged(&rt, rt.alloc(), 2, 1)?)
 }
 
 /// One look at a record shows its kind, its count and its first values, or its kind and one value; Unset where it has
 /// none there, as a string has nowhere.
-fn looked_at<S: SegStore>(rt: &impl Abort, alloc: Global, mut store: Bench<S>) -> Tested {
+fn looked_at<S: SegStore>(rt: &Judge<impl Abort>, alloc: Global, mut store: Bench<S>) -> Tested {
     let a = make(rt, alloc, &mut store, 0, Kind::List, &[])?;
     assert_eq!(rt; store.head(rt, 0, a).count, 0);
     push_numbers(rt, &mut store, 0, a, 5, 7);
@@ -147,16 +152,16 @@ fn looked_at<S: SegStore>(rt: &impl Abort, alloc: Global, mut store: Bench<S>) -
 
 #[test]
 fn looked_at_maps(rt: HostRuntime) -> Tested {
-    looked_at(&rt, rt.alloc(), maps(&rt, rt.alloc(), 1)?)
+    looked_at(&Judge(&rt), rt.alloc(), maps(&rt, rt.alloc(), 1)?)
 }
 
 #[test]
 fn looked_at_pages(rt: HostRuntime) -> Tested {
-    looked_at(&rt, rt.alloc(), paged(&rt, rt.alloc(), 1, 1)?)
+    looked_at(&Judge(&rt), rt.alloc(), paged(&rt, rt.alloc(), 1, 1)?)
 }
 
 /// A list that grows and is cut.
-fn lists<S: SegStore>(rt: &impl Abort, alloc: Global, mut store: Bench<S>) -> Tested {
+fn lists<S: SegStore>(rt: &Judge<impl Abort>, alloc: Global, mut store: Bench<S>) -> Tested {
     let a = make(rt, alloc, &mut store, 0, Kind::List, &[])?;
     assert_eq!(rt; size(rt, &store, 0, a), (0, 0, 0));
     push_numbers(rt, &mut store, 0, a, 0, 3);
@@ -169,16 +174,16 @@ fn lists<S: SegStore>(rt: &impl Abort, alloc: Global, mut store: Bench<S>) -> Te
 
 #[test]
 fn lists_maps(rt: HostRuntime) -> Tested {
-    lists(&rt, rt.alloc(), maps(&rt, rt.alloc(), 1)?)
+    lists(&Judge(&rt), rt.alloc(), maps(&rt, rt.alloc(), 1)?)
 }
 
 #[test]
 fn lists_pages(rt: HostRuntime) -> Tested {
-    lists(&rt, rt.alloc(), paged(&rt, rt.alloc(), 1, 1)?)
+    lists(&Judge(&rt), rt.alloc(), paged(&rt, rt.alloc(), 1, 1)?)
 }
 
 /// A dictionary with one pair, which is found and dropped.
-fn dictionaries<S: SegStore>(rt: &impl Abort, alloc: Global, mut store: Bench<S>) -> Tested {
+fn dictionaries<S: SegStore>(rt: &Judge<impl Abort>, alloc: Global, mut store: Bench<S>) -> Tested {
     let d = make(rt, alloc, &mut store, 0, Kind::Dict, &[])?;
     assert_eq!(rt; size(rt, &store, 0, d), (0, 2, 2));
     store.pair(rt, 0, d, Value::Int(4), Value::Int(40));
@@ -191,16 +196,16 @@ fn dictionaries<S: SegStore>(rt: &impl Abort, alloc: Global, mut store: Bench<S>
 
 #[test]
 fn dictionaries_maps(rt: HostRuntime) -> Tested {
-    dictionaries(&rt, rt.alloc(), maps(&rt, rt.alloc(), 1)?)
+    dictionaries(&Judge(&rt), rt.alloc(), maps(&rt, rt.alloc(), 1)?)
 }
 
 #[test]
 fn dictionaries_pages(rt: HostRuntime) -> Tested {
-    dictionaries(&rt, rt.alloc(), paged(&rt, rt.alloc(), 1, 1)?)
+    dictionaries(&Judge(&rt), rt.alloc(), paged(&rt, rt.alloc(), 1, 1)?)
 }
 
 /// A string, and two bytes of it.
-fn strings<S: SegStore>(rt: &impl Abort, alloc: Global, mut store: Bench<S>) -> Tested {
+fn strings<S: SegStore>(rt: &Judge<impl Abort>, alloc: Global, mut store: Bench<S>) -> Tested {
     let a = make_text(rt, alloc, &mut store, 0, b"text")?;
     assert_eq!(rt; size(rt, &store, 0, a), (4, 0, 0));
     let mut two = [0; 2];
@@ -211,17 +216,17 @@ fn strings<S: SegStore>(rt: &impl Abort, alloc: Global, mut store: Bench<S>) -> 
 
 #[test]
 fn strings_maps(rt: HostRuntime) -> Tested {
-    strings(&rt, rt.alloc(), maps(&rt, rt.alloc(), 1)?)
+    strings(&Judge(&rt), rt.alloc(), maps(&rt, rt.alloc(), 1)?)
 }
 
 #[test]
 fn strings_pages(rt: HostRuntime) -> Tested {
-    strings(&rt, rt.alloc(), paged(&rt, rt.alloc(), 1, 1)?)
+    strings(&Judge(&rt), rt.alloc(), paged(&rt, rt.alloc(), 1, 1)?)
 }
 
 /// The place of a new string of these bytes as a key.
 fn place_of<S: SegStore>(
-    rt: &impl Abort,
+    rt: &Judge<impl Abort>,
     alloc: Global,
     store: &mut Bench<S>,
     d: Addr,
@@ -232,7 +237,7 @@ fn place_of<S: SegStore>(
 }
 
 /// A string with the bytes of a key is that key, and one that has another byte or another length is not.
-fn text_keys<S: SegStore>(rt: &impl Abort, alloc: Global, mut store: Bench<S>) -> Tested {
+fn text_keys<S: SegStore>(rt: &Judge<impl Abort>, alloc: Global, mut store: Bench<S>) -> Tested {
     let d = make(rt, alloc, &mut store, 0, Kind::Dict, &[])?;
     let long = make_text(rt, alloc, &mut store, 0, b"twelve bytes")?;
     let short = make_text(rt, alloc, &mut store, 0, b"8 bytes.")?;
@@ -251,10 +256,10 @@ fn text_keys<S: SegStore>(rt: &impl Abort, alloc: Global, mut store: Bench<S>) -
 
 #[test]
 fn text_keys_maps(rt: HostRuntime) -> Tested {
-    text_keys(&rt, rt.alloc(), maps(&rt, rt.alloc(), 1)?)
+    text_keys(&Judge(&rt), rt.alloc(), maps(&rt, rt.alloc(), 1)?)
 }
 
 #[test]
 fn text_keys_pages(rt: HostRuntime) -> Tested {
-    text_keys(&rt, rt.alloc(), paged(&rt, rt.alloc(), 1, 1)?)
+    text_keys(&Judge(&rt), rt.alloc(), paged(&rt, rt.alloc(), 1, 1)?)
 }
