@@ -2,7 +2,7 @@ use Rattle.std.proofs.Common.{false, refl}
 use Rattle.obj_class.specs.Telling.{told_row}
 use Rattle.py_frames.specs.PrintRows.{named_words, last_words}
 use Rattle.py_data.proofs.Steps.{live_after, safe_rest}
-use Rattle.py_calls.proofs.prints.named_words.Goals as goal
+use Rattle.py_raises.proofs.prints.named_words.Goals as goal
 
 pub last_words-requires-clause-live : goal.last_words-requires-clause-live
 last_words-requires-clause-live g c = live_after g.V.View.sense g.met.V.View.lawful

@@ -6,8 +6,8 @@ ghost use Rattle.py_frames.specs.Binding.{plainly};
 ghost use Rattle.py_frames.specs.ClassCalls.{class_call};
 ghost use Rattle.py_frames.specs.RaiseRows.{alone_by, call_if, called_with, class_raised, class_valued, class_with, class_with_if, instance_valued, made_alone, made_valued, same_or_called, valued_by};
 
-use crate::class_calls::{class_call, exception_class_row};
 use crate::raises::{is_instance_row, raised_args};
+use py_calls::{class_call, exception_class_row};
 use py_data::{Addr, Kind, Stop, Value, View, kind};
 use py_frames::Next;
 use py_parts::{Given, Site, push, raise_row, raised_fault};

@@ -6,8 +6,8 @@ ghost use Rattle.py_frames.specs.FunctionRows.{body_by, body_frame, class_body_r
 ghost use Rattle.py_frames.specs.State.{code_at};
 ghost use Rattle.py_data.specs.declared.value.Value.TheVariants.{Ref};
 
-use crate::named::push_unset;
 use obj_class::{make_record, make_text, three};
+use py_calls::push_unset;
 use py_code::Program;
 use py_data::{Addr, Kind, LENGTH_LIMIT, NoMemory, Stop, Value, Values, View, kind};
 use py_frames::{Blocks, Frame, Next};

@@ -2,8 +2,8 @@ use Rattle.std.proofs.Common.{arith, false, not, ap}
 use Rattle.py_data.proofs.Steps.{stop_as}
 use Rattle.py_data.proofs.Turns.{until_safe, until_stop, until_more, until_found, until_end}
 use Rattle.py_frames.specs.RaiseRows.{place_catches, some_catches}
-use Rattle.py_calls.proofs.Loops.{some_begin}
-use Rattle.py_calls.proofs.raises.some_catches.Goals as goal
+use Rattle.py_raises.proofs.Loops.{some_begin}
+use Rattle.py_raises.proofs.raises.some_catches.Goals as goal
 
 pub turns-init : goal.turns-init
 turns-init g c = some_begin c.args.roots.0 c.args.e.0 c.args.t.0 c.args.n _ c.requires.safe c.requires.live

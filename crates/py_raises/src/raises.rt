@@ -4,8 +4,8 @@ ghost use Rattle.py_data.specs.Sense.{Meets, Safe, IsLive};
 ghost use Rattle.py_frames.specs.ClassCalls.{exception_class_row};
 ghost use Rattle.py_frames.specs.RaiseRows.{below_row, catches_if, catches_row, class_catches, class_match, exc_match_row, instance_by, is_instance_row, item_by, item_catches, items_by, match_by, place_catches, raise_by, raise_if, raise_instance, raise_of, raise_value, raised_args, record_catches, some_catches, told_match, tuple_catches};
 
-use crate::class_calls::exception_class_row;
 use obj_class::{is_sub, one};
+use py_calls::exception_class_row;
 use py_data::exception::BASE_EXCEPTION;
 use py_data::{Addr, Kind, Stop, Value, Values, View, kind, look, size};
 use py_frames::Next;

@@ -36,7 +36,7 @@ fn ends_line(last: Option<u8>) -> bool
 }
 
 /// The last byte of a text, if it has one.
-#[tactic(auto, using(crate::proofs::PastEnds::last_is))]
+#[tactic(auto, using(crate::proofs::Lasts::last_is))]
 fn last_byte(text: &[u8]) -> Option<u8>
     ensures { result ≡ last_or None text.now }
 {
