@@ -19,15 +19,15 @@ use Rattle.stm_core.specs.declared.commit.Commit.{Commit}
 use Rattle.stm_core.specs.declared.commit.Commit.TheVariants.{Committed as AtTurn, Nothing}
 use Rattle.stm_core.specs.declared.solo.SoloError.{SoloError}
 use Rattle.stm_core.specs.declared.solo.SoloError.TheVariants.{Over as OverSolo, Lost as LostSolo, Taken}
-use Rattle.stm_core.specs.declared.cause.Cause.{Cause}
-use Rattle.stm_core.specs.declared.cause.Cause.TheVariants.{Full, ReadFault, WriteFault, ErrFault, OutOfMemory}
+use Rattle.stm_segment.specs.declared.cause.Cause.{Cause}
+use Rattle.stm_segment.specs.declared.cause.Cause.TheVariants.{Full, ReadFault, WriteFault, ErrFault, OutOfMemory}
 use Rattle.stm_core.specs.Advance.{moves_of}
 use Rattle.stm_core.specs.Advanced.{CountsDone, tried_after, IsStepCause, with_cause, IsSoloCause, Fails, Ends, StepsTaken, AdvancedFrom, Advanced}
 use Rattle.stm_core.specs.Begun.{Begun}
 use Rattle.stm_core.specs.Committed.{CommitEnds, CommitOf, Committed}
-use Rattle.stm_core.specs.CoreState.{Transaction, Segment, Idle, Doomed, Running, CoreState, committed, turn_of, world_after, threads_after, with_segment, with_conflict, soloed}
+use Rattle.stm_segment.specs.CoreState.{Transaction, Segment, Idle, Doomed, Running, CoreState, committed, turn_of, world_after, threads_after, with_segment, with_conflict, soloed, first_cause}
 use Rattle.stm_core.specs.Good.{Good}
-use Rattle.stm_core.specs.Moves.{first_cause, begun_at, Move, Follows}
+use Rattle.stm_core.specs.Moves.{begun_at, Move, Follows}
 use Rattle.stm_core.specs.Outside.{Outer}
 use Rattle.stm_core.specs.Passes.{doom_readers, after_commit}
 use Rattle.stm_core.specs.Solo.{SoloedFrom, Soloed, up_to_whole}

@@ -10,9 +10,9 @@ use Rattle.lock_run.specs.Prog.{Prog}
 use Rattle.lock_run.specs.Machine.{Machine}
 use Rattle.lock_run.proofs.Stepping.{get_set}
 use Rattle.seg_store.specs.Meaning.{overlay}
-use Rattle.stm_core.specs.declared.cause.Cause.TheVariants.{Full, ReadFault, WriteFault, ErrFault, OutOfMemory}
-use Rattle.stm_core.specs.Asking.{CallWants}
-use Rattle.stm_core.specs.CoreState.{Transaction, Running, CoreState, committed, sight_of}
+use Rattle.stm_segment.specs.declared.cause.Cause.TheVariants.{Full, ReadFault, WriteFault, ErrFault, OutOfMemory}
+use Rattle.stm_segment.specs.Asking.{CallWants}
+use Rattle.stm_segment.specs.CoreState.{Transaction, Running, CoreState, committed, sight_of}
 use Rattle.stm_core.specs.Good.{Good}
 use Rattle.stm_core.specs.Moves.{Move, Begins, Drops, Dooms, Loses, Goes, Rests, Commits, Keeps, Next, ComesToWant}
 use Rattle.stm_core.proofs.Soundness.{sound_steps, first_sound, sound_run, sound_transaction}

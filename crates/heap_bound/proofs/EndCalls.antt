@@ -7,9 +7,9 @@ use Rattle.lock_run.specs.Machine.{Machine}
 use Rattle.stm_pieces.specs.declared.loan.Loan.{Loan}
 use Rattle.stm_core.specs.declared.answers.LoanError.{LoanError}
 use Rattle.stm_core.specs.declared.answers.LoanError.TheVariants as error
-use Rattle.stm_core.specs.declared.cause.Cause.TheVariants.{OutOfMemory}
+use Rattle.stm_segment.specs.declared.cause.Cause.TheVariants.{OutOfMemory}
 use Rattle.stm_core.specs.Advanced.{with_cause, Fails}
-use Rattle.stm_core.specs.CoreState.{Transaction, Idle, Running, CoreState, with_segment}
+use Rattle.stm_segment.specs.CoreState.{Transaction, Idle, Running, CoreState, with_segment}
 use Rattle.stm_core.specs.Finishing.{idle_core, SettlesSolo}
 use Rattle.stm_core.specs.Good.{Good}
 use Rattle.stm_core.specs.Outside.{Outer}

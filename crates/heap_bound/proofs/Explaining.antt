@@ -4,11 +4,11 @@ use Rattle.lock_run.specs.declared.turn.Turn.{Turn}
 use Rattle.lock_run.specs.Prog.{Prog}
 use Rattle.lock_run.specs.Machine.{Machine, DoesTurn, Runs}
 use Rattle.lock_run.proofs.Along.{runs_append}
-use Rattle.stm_core.specs.declared.cause.Cause.{Cause}
-use Rattle.stm_core.specs.declared.cause.Cause.TheVariants.{Full, ReadFault, WriteFault, ErrFault, OutOfMemory}
-use Rattle.stm_core.specs.CoreState.{CoreState, committed, turn_of, core_new}
+use Rattle.stm_segment.specs.declared.cause.Cause.{Cause}
+use Rattle.stm_segment.specs.declared.cause.Cause.TheVariants.{Full, ReadFault, WriteFault, ErrFault, OutOfMemory}
+use Rattle.stm_segment.specs.CoreState.{CoreState, committed, turn_of, core_new, first_cause}
 use Rattle.stm_core.specs.Good.{Good}
-use Rattle.stm_core.specs.Moves.{Move, Begins, Drops, Dooms, Loses, Goes, Rests, Commits, Keeps, Next, first_cause}
+use Rattle.stm_core.specs.Moves.{Move, Begins, Drops, Dooms, Loses, Goes, Rests, Commits, Keeps, Next}
 use Rattle.stm_core.specs.Outside.{Outer, Inner, Solos, Breaks}
 use Rattle.stm_core.proofs.Publish.{publish_turn}
 use Rattle.heap_bound.specs.Moments.{InUse, IsWanted, Once, WantedBy, IsExplained}

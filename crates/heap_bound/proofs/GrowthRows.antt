@@ -17,10 +17,10 @@ use Rattle.lock_run.specs.Machine.{Machine, Step, Steps, DoesTurn, Runs}
 use Rattle.seg_store.specs.Extents.{class_holding, extents, words_at}
 use Rattle.seg_store.specs.Sums.{sum_below}
 use Rattle.seg_store.specs.Meaning.{over}
-use Rattle.stm_core.specs.CoreState.{Transaction, Idle, Running, CoreState, sight_of, with_segment}
+use Rattle.stm_segment.specs.CoreState.{Transaction, Idle, Running, CoreState, sight_of, with_segment}
 use Rattle.stm_core.specs.Moves.{Goes, Next}
 use Rattle.stm_core.specs.Advanced.{IsOwn}
-use Rattle.stm_core.specs.InUse.{Moment, used_then, RisesWithin}
+use Rattle.stm_core.specs.PeakRises.{Moment, used_then, RisesWithin}
 use Rattle.heap_bound.specs.Growth.{words_of, names_in, IsGrowth, BoundsGrowth}
 use Rattle.heap_bound.specs.Worked.{a_cell, Stage, Making, Ending, Over, stage_row, one_cell, cell_begins, cell_turn, cell_ends, cell_maker, cell_core, cell_words}
 

@@ -16,15 +16,15 @@ use Rattle.seg_store.specs.Store.{IsStore}
 use Rattle.seg_store.specs.Extents.{extents, extents_of}
 use Rattle.seg_store.specs.Sums.{sum_below, asked, gained}
 use Rattle.seg_store.specs.Telling.{in_use}
-use Rattle.stm_core.specs.declared.books.Progress.{Progress}
-use Rattle.stm_core.specs.declared.books.Books.{Books}
-use Rattle.stm_core.specs.declared.books.Hand.{Hand}
-use Rattle.stm_core.specs.declared.books.Hand.TheVariants as hand
-use Rattle.stm_core.specs.Books.{Worlds, is_running, segment_of, core_of, Fit}
-use Rattle.stm_core.specs.CoreState.{Segment, Idle, Doomed, Running, CoreState, committed, sight_of}
+use Rattle.stm_segment.specs.declared.books.Progress.{Progress}
+use Rattle.stm_segment.specs.declared.books.Books.{Books}
+use Rattle.stm_segment.specs.declared.books.Hand.{Hand}
+use Rattle.stm_segment.specs.declared.books.Hand.TheVariants as hand
+use Rattle.stm_segment.specs.Books.{Worlds, is_running, segment_of, core_of, Fit}
+use Rattle.stm_segment.specs.CoreState.{Segment, Idle, Doomed, Running, CoreState, committed, sight_of}
 use Rattle.stm_core.specs.Good.{Good}
 use Rattle.heap_bound.specs.Moments.{More, IsAsked, InUse}
-use Rattle.stm_core.specs.InUse.{seg_view, core_use, wants_more, RisesUpTo}
+use Rattle.stm_segment.specs.InUse.{seg_view, core_use, wants_more, RisesUpTo}
 use Rattle.heap_bound.specs.Using.{Lifts}
 use Rattle.heap_bound.specs.Laws.{StoreLaw, UseLaw, TellsLaw, TellsRefusedLaw, ChainLaw, RiseLaw}
 use Rattle.heap_bound.proofs.Summing.{below_le, below_more}

@@ -20,8 +20,8 @@ use Rattle.lock_run.specs.Machine.{Machine, Step, Steps, DoesTurn, Runs}
 use Rattle.lock_run.proofs.StepsMirror.{steps_grows}
 use Rattle.seg_store.specs.Extents.{extents_of, Wants}
 use Rattle.seg_store.specs.Meaning.{overlay}
-use Rattle.stm_core.specs.Asking.{CallWants}
-use Rattle.stm_core.specs.CoreState.{Transaction, world_after, sight_of}
+use Rattle.stm_segment.specs.Asking.{CallWants}
+use Rattle.stm_segment.specs.CoreState.{Transaction, world_after, sight_of}
 use Rattle.stm_core.specs.Good.{Stands}
 use Rattle.heap_bound.specs.Moments.{More, Came, IsAsked, IsWanted}
 use Rattle.heap_bound.proofs.Larger.{more_refl, more_trans, does_more, steps_more, upto_more}

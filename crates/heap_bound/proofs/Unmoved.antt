@@ -7,7 +7,7 @@ use Rattle.py_data.specs.World.{World}
 use Rattle.lock_run.specs.Prog.{Prog}
 use Rattle.stm_core.specs.Advance.{Try, moves_of, IsStepOf, IsTry, Tried}
 use Rattle.stm_core.specs.Advanced.{IsOwn, Led}
-use Rattle.stm_core.specs.CoreState.{Transaction, Segment, Idle, Doomed, Running, CoreState, committed}
+use Rattle.stm_segment.specs.CoreState.{Transaction, Segment, Idle, Doomed, Running, CoreState, committed}
 use Rattle.stm_core.specs.Moves.{Move, Begins, Drops, Dooms, Loses, Goes, Rests, Commits, Keeps, Next, Follows}
 use Rattle.stm_core.specs.Passes.{met, doom_met, doom_one, doom_readers}
 

@@ -4,9 +4,10 @@ use Rattle.py_data.specs.Heap.{Heap}
 use Rattle.lock_run.specs.Client.{WaitsQuietly, StaysSound, IsSafe}
 use Rattle.lock_run.specs.Prog.{Prog}
 use Rattle.lock_run.specs.Machine.{Machine}
-use Rattle.stm_core.specs.CoreState.{CoreState, committed}
+use Rattle.stm_segment.specs.CoreState.{CoreState, committed}
 use Rattle.stm_core.specs.Good.{Good}
-use Rattle.stm_core.specs.InUse.{core_use, next_more, Moment}
+use Rattle.stm_segment.specs.InUse.{core_use, next_more}
+use Rattle.stm_core.specs.PeakRises.{Moment}
 use Rattle.heap_bound.specs.Laws.{IsStart, WithinLaw}
 use Rattle.heap_bound.specs.Moments.{InUse}
 use Rattle.heap_bound.proofs.Calling.{GoodAfter}

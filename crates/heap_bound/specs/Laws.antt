@@ -16,26 +16,27 @@ use Rattle.seg_store.specs.Extents.{words_in}
 use Rattle.seg_store.specs.Meaning.{Meaning, sees}
 use Rattle.seg_store.specs.Store.{IsStore}
 use Rattle.seg_store.specs.Telling.{in_use, Rises, RisesTo}
-use Rattle.stm_core.specs.declared.books.Books.{Books}
-use Rattle.stm_core.specs.declared.books.Progress.{Progress}
-use Rattle.stm_core.specs.Books.{Worlds, core_of, Fit}
+use Rattle.stm_segment.specs.declared.books.Books.{Books}
+use Rattle.stm_segment.specs.declared.books.Progress.{Progress}
+use Rattle.stm_segment.specs.Books.{Worlds, core_of, Fit}
 use Rattle.stm_core.specs.declared.answers.Advance.{Advance}
 use Rattle.stm_core.specs.declared.answers.AdvanceError.{AdvanceError}
 use Rattle.stm_core.specs.declared.answers.LoanError.{LoanError}
 use Rattle.stm_core.specs.declared.begin.BeginError.{BeginError}
 use Rattle.stm_core.specs.declared.commit.Commit.{Commit}
 use Rattle.stm_core.specs.declared.solo.SoloError.{SoloError}
-use Rattle.stm_core.specs.declared.cause.Cause.TheVariants.{Full}
+use Rattle.stm_segment.specs.declared.cause.Cause.TheVariants.{Full}
 use Rattle.stm_core.specs.Advanced.{Advanced}
 use Rattle.stm_core.specs.Begun.{Begun}
 use Rattle.stm_core.specs.Committed.{Committed}
 use Rattle.stm_core.specs.Finishing.{idle_core, SettlesSolo}
-use Rattle.stm_core.specs.InUse.{core_use, next_more, RisesUpTo, RisesWithin}
+use Rattle.stm_segment.specs.InUse.{core_use, next_more, RisesUpTo}
+use Rattle.stm_core.specs.PeakRises.{RisesWithin}
 use Rattle.stm_core.specs.Outside.{Outer, OuterMove, OuterNext}
 use Rattle.stm_core.specs.Pieces.{IsInstalled, IsLoaned}
 use Rattle.stm_core.specs.Solo.{Soloed}
-use Rattle.stm_core.specs.Asking.{CallWants}
-use Rattle.stm_core.specs.CoreState.{Transaction, CoreState, Running, committed, sight_of, core_new}
+use Rattle.stm_segment.specs.Asking.{CallWants}
+use Rattle.stm_segment.specs.CoreState.{Transaction, CoreState, Running, committed, sight_of, core_new}
 use Rattle.stm_core.specs.Good.{Good}
 use Rattle.stm_core.specs.Moves.{Move, Next}
 use Rattle.heap_bound.specs.Growth.{IsNearlyFull}

@@ -8,9 +8,9 @@ use Rattle.lock_run.specs.Prog.{Prog}
 use Rattle.lock_run.specs.Machine.{Machine, Steps, Runs}
 use Rattle.seg_store.specs.Extents.{extents_of}
 use Rattle.seg_store.specs.Sums.{sum_below, asked, gained}
-use Rattle.stm_core.specs.declared.cause.Cause.{Cause}
-use Rattle.stm_core.specs.declared.cause.Cause.TheVariants.{Full}
-use Rattle.stm_core.specs.CoreState.{CoreState, committed}
+use Rattle.stm_segment.specs.declared.cause.Cause.{Cause}
+use Rattle.stm_segment.specs.declared.cause.Cause.TheVariants.{Full}
+use Rattle.stm_segment.specs.CoreState.{CoreState, committed}
 
 -- at each address a heap has the extents of another one, and maybe more
 pub record More (h g : Heap) : Type 0 where

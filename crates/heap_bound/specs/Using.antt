@@ -3,8 +3,8 @@
 use Rattle.std.specs.Prelude.{◌⊎◌, ℕ, ◌≤◌, Some}
 use Rattle.lock_run.specs.Prog.{Prog}
 use Rattle.lock_run.specs.Machine.{Machine}
-use Rattle.stm_core.specs.declared.cause.Cause.TheVariants.{Full}
-use Rattle.stm_core.specs.CoreState.{CoreState, committed}
+use Rattle.stm_segment.specs.declared.cause.Cause.TheVariants.{Full}
+use Rattle.stm_segment.specs.CoreState.{CoreState, committed}
 use Rattle.stm_core.specs.Moves.{Move, Keeps}
 use Rattle.stm_core.specs.Outside.{OuterMove, Inner, Solos, Breaks}
 use Rattle.heap_bound.specs.Moments.{InUse, IsWanted, WantedBy}

@@ -12,7 +12,7 @@ use Rattle.py_data.specs.Row.{Row, Ret, Do, Edit, Make, Read}
 use Rattle.seg_store.specs.Extents.{class_holding, extents, words_in, words_at}
 use Rattle.seg_store.specs.Sums.{sum_below}
 use Rattle.seg_store.specs.Worked.{nones, a_list}
-use Rattle.stm_core.specs.CoreState.{Transaction, Idle, Running, CoreState, no_world, fresh, core_new, with_segment}
+use Rattle.stm_segment.specs.CoreState.{Transaction, Idle, Running, CoreState, no_world, fresh, core_new, with_segment}
 use Rattle.lock_run.specs.declared.client.Life.{Life}
 use Rattle.lock_run.specs.declared.client.Life.TheVariants.{Lives, Ended as HasEnded}
 use Rattle.lock_run.specs.declared.client.Outcome.{Outcome}
@@ -21,7 +21,7 @@ use Rattle.lock_run.specs.declared.turn.Turn.{Turn}
 use Rattle.lock_run.specs.Machine.{Machine, begin_with}
 use Rattle.lock_run.specs.Prog.{Prog}
 use Rattle.heap_bound.specs.Growth.{words_of, names_in}
-use Rattle.stm_core.specs.InUse.{core_use, wants_more, RisesUpTo}
+use Rattle.stm_segment.specs.InUse.{core_use, wants_more, RisesUpTo}
 
 -- ---- words of names
 

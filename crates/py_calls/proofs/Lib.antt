@@ -1,4 +1,1 @@
 mod Wide
-mod PastEnds
-mod Afters
-mod Loops

@@ -19,10 +19,7 @@ ghost use Rattle.py_step.specs.inner.Operators.{HasOperator};
 
 use crate::place::place_of;
 use py_base::{first, skip};
-use py_calls::{
-    class_body_row, exc_match_row, made_alone, made_valued, make_function_row, print_item_row,
-    print_newline_row, raise_value, value_call,
-};
+use py_calls::value_call;
 use py_code::Instr;
 use py_data::{Kind, NoMemory, Stop, Value, Values, View, value_or_unset};
 use py_frames::{Next, Pushed};
@@ -33,6 +30,10 @@ use py_instrs::{
     store_attr_row, store_global_row, store_item_row, store_name_row, unary_instr, unpack_row,
 };
 use py_parts::{Given, Site, code_name, keys_at, pass, push_two, root_name, slot_name};
+use py_raises::{
+    class_body_row, exc_match_row, made_alone, made_valued, make_function_row, print_item_row,
+    print_newline_row, raise_value,
+};
 use py_states::ThreadState;
 use std::alloc::Global;
 
@@ -282,7 +283,7 @@ fn leave<S, V: View<S>>(
 {
     let name = code_name(s.program, t.code());
     let below = s.depth.saturating_sub(1);
-    py_calls::return_by(
+    py_raises::return_by(
         alloc,
         v,
         s.roots,

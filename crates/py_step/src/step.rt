@@ -16,10 +16,10 @@ use crate::operands::pops;
 use crate::place::{instr_at, place_of, site};
 use crate::prepared::Prepared;
 use lock_run::Outcome;
-use py_calls::dying_row;
 use py_code::{Instr, Program};
 use py_data::{Stop, View};
 use py_frames::{Dying, Next};
+use py_raises::dying_row;
 use py_states::ThreadState;
 use std::alloc::Global;
 

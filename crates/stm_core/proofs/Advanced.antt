@@ -17,14 +17,14 @@ use Rattle.stm_core.specs.declared.answers.Advance.{Advance}
 use Rattle.stm_core.specs.declared.answers.Advance.TheVariants.{Ran, Waits, Ended, NeedSolo}
 use Rattle.stm_core.specs.declared.answers.AdvanceError.{AdvanceError}
 use Rattle.stm_core.specs.declared.answers.AdvanceError.TheVariants.{Lost, Failed}
-use Rattle.stm_core.specs.declared.cause.Cause.{Cause}
-use Rattle.stm_core.specs.declared.cause.Cause.TheVariants.{Full, ReadFault, WriteFault, ErrFault, OutOfMemory}
-use Rattle.stm_core.specs.CoreState.{IsShort, Transaction, Segment, Idle, Doomed, Running, CoreState, sight_of, world_after, set_segment, with_segment, with_conflict}
-use Rattle.stm_core.specs.Conflict.{loser, IsStanding, AsksFrom}
+use Rattle.stm_segment.specs.declared.cause.Cause.{Cause}
+use Rattle.stm_segment.specs.declared.cause.Cause.TheVariants.{Full, ReadFault, WriteFault, ErrFault, OutOfMemory}
+use Rattle.stm_segment.specs.CoreState.{IsShort, Transaction, Segment, Idle, Doomed, Running, CoreState, sight_of, world_after, set_segment, with_segment, with_conflict, first_cause}
+use Rattle.stm_segment.specs.Conflict.{loser, IsStanding, AsksFrom}
 use Rattle.stm_core.specs.Good.{Stands, Good}
-use Rattle.stm_core.specs.Moves.{ComesToWant, IsMetBy, first_cause, published, Move, Begins, Drops, Dooms, Loses, Goes, Rests, Commits, Keeps, Next, Follows}
+use Rattle.stm_core.specs.Moves.{ComesToWant, IsMetBy, published, Move, Begins, Drops, Dooms, Loses, Goes, Rests, Commits, Keeps, Next, Follows}
 use Rattle.stm_core.specs.Passes.{doom_readers, after_commit}
-use Rattle.stm_core.specs.Asking.{Reaches, AsksRoom}
+use Rattle.stm_segment.specs.Asking.{Reaches, AsksRoom}
 use Rattle.stm_core.specs.Advance.{Try, moves_of, IsStepOf, IsTry, Tried, Gone}
 use Rattle.stm_core.specs.Advanced.{IsLeft, StoodBetween, OnlyOwn, IsOwn, CountsDone, tried_after, IsStepCause, with_cause, Fails, Ends, StepsTaken, AdvancedFrom, Advanced, EndsSo, Led}
 use Rattle.stm_core.specs.Outside.{Outer, Kept, Inner, OuterLed}

@@ -15,24 +15,24 @@ use Rattle.lock_run.specs.Machine.{Machine}
 use Rattle.lock_run.specs.Client.{Standing, StaysSound}
 use Rattle.seg_store.specs.Meaning.{Meaning, sees}
 use Rattle.seg_store.specs.Store.{IsStore}
-use Rattle.stm_core.specs.declared.books.Work.{Work}
-use Rattle.stm_core.specs.declared.books.Hand.TheVariants.{Runs}
-use Rattle.stm_core.specs.declared.books.Books.{Books}
-use Rattle.stm_core.specs.CoreState.{Transaction, Segment, Running, CoreState, sight_of, set_segment, with_segment}
-use Rattle.stm_core.specs.Conflict.{side, AsksFrom}
+use Rattle.stm_segment.specs.declared.books.Work.{Work}
+use Rattle.stm_segment.specs.declared.books.Hand.TheVariants.{Runs}
+use Rattle.stm_segment.specs.declared.books.Books.{Books}
+use Rattle.stm_segment.specs.CoreState.{Transaction, Segment, Running, CoreState, sight_of, set_segment, with_segment}
+use Rattle.stm_segment.specs.Conflict.{side, AsksFrom}
 use Rattle.stm_core.specs.Moves.{Advances, Stays, IsFree, Move, Dooms as DoomsMove, Goes, Rests, Next, Follows}
-use Rattle.stm_core.specs.Books.{Worlds, with_own, transaction, segment_of, core_of, Fit}
+use Rattle.stm_segment.specs.Books.{Worlds, with_own, transaction, segment_of, core_of, Fit}
 use Rattle.stm_core.specs.declared.steps.Pause.{Pause}
-use Rattle.stm_core.specs.declared.halt.Halt.{Halt}
+use Rattle.stm_segment.specs.declared.halt.Halt.{Halt}
 use Rattle.stm_core.specs.declared.steps.Pause.TheVariants.{Whole, Waits, Ended as EndedPause, Stopped}
-use Rattle.stm_core.specs.inner.Hold.{Dooms}
-use Rattle.stm_core.specs.Asking.{Reaches, AsksToChange, AskedFor, Went}
+use Rattle.stm_segment.specs.inner.Hold.{Dooms}
+use Rattle.stm_segment.specs.Asking.{Reaches, AsksToChange, AskedFor, Went}
 use Rattle.stm_core.specs.inner.Whole.{stepped, StepDone, StepCut}
 use Rattle.stm_core.specs.Advance.{Try, moves_of, IsStepOf, IsTry, Tried, Gone}
 use Rattle.stm_core.specs.inner.Trying.{core_with, Sane, SaneShown}
 use Rattle.stm_core.specs.inner.Pauses.{tried_by}
 use Rattle.stm_core.specs.inner.Pausing.{HasTold, Paused, SaneAfter}
-use Rattle.stm_core.specs.Devices.{DeviceState, Shown}
+use Rattle.stm_segment.specs.Devices.{DeviceState, Shown}
 use Rattle.stm_core.specs.Good.{Good}
 use Rattle.stm_core.proofs.TwoPasses.{follows_append}
 use Rattle.stm_core.proofs.Kept.{good_after}

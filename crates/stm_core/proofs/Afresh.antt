@@ -11,7 +11,7 @@ use Rattle.py_data.proofs.Mirror.{does_afresh}
 use Rattle.py_data.proofs.Whole.{upto_follows}
 use Rattle.lock_run.specs.declared.client.Outcome.{Outcome}
 use Rattle.lock_run.specs.declared.client.Outcome.TheVariants.{Waits as WaitsNow}
-use Rattle.stm_core.specs.Asking.{Reaches, CallWants, AsksToChange, AsksOutside, AsksRoom}
+use Rattle.stm_segment.specs.Asking.{Reaches, CallWants, AsksToChange, AsksOutside, AsksRoom}
 
 -- another sight of the same heap and the same world
 abbrev Same : {S : Type 0} → Sight S → Sight S → Type 0

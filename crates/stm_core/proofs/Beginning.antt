@@ -14,24 +14,23 @@ use Rattle.lock_run.specs.Machine.{begin_with}
 use Rattle.seg_store.specs.Meaning.{Part, Meaning, holds}
 use Rattle.seg_store.specs.Calls.{begun, after_begin}
 use Rattle.seg_store.specs.Store.{IsStore}
-use Rattle.stm_core.specs.declared.cause.Cause.{Cause}
-use Rattle.stm_core.specs.declared.cause.Cause.TheVariants.{OutOfMemory as NoMemoryLeft}
-use Rattle.stm_core.specs.declared.books.Work.{Work}
-use Rattle.stm_core.specs.declared.books.Hand.TheVariants.{Idle as IdleHand, Runs}
-use Rattle.stm_core.specs.declared.books.Books.{Books}
+use Rattle.stm_segment.specs.declared.cause.Cause.{Cause}
+use Rattle.stm_segment.specs.declared.cause.Cause.TheVariants.{OutOfMemory as NoMemoryLeft}
+use Rattle.stm_segment.specs.declared.books.Work.{Work}
+use Rattle.stm_segment.specs.declared.books.Hand.TheVariants.{Idle as IdleHand, Runs}
+use Rattle.stm_segment.specs.declared.books.Books.{Books}
 use Rattle.stm_core.specs.declared.begin.BeginError.{BeginError}
 use Rattle.stm_core.specs.declared.begin.BeginError.TheVariants.{Over, Busy, NotReady, AtBudget, OutOfMemory}
-use Rattle.stm_core.specs.CoreState.{no_world, Transaction, Running, CoreState, committed, set_segment, fresh}
+use Rattle.stm_segment.specs.CoreState.{no_world, Transaction, Running, CoreState, committed, set_segment, fresh, first_cause}
 use Rattle.stm_core.specs.Good.{Good}
-use Rattle.stm_core.specs.Moves.{Begins, Keeps, first_cause, begun_at}
-use Rattle.stm_core.specs.Books.{Worlds, WorkFits, is_running, runs_at, one_running, one_started, is_lock, transaction, segment_of, core_of}
+use Rattle.stm_core.specs.Moves.{Begins, Keeps, begun_at}
+use Rattle.stm_segment.specs.Books.{Worlds, WorkFits, is_running, runs_at, one_running, one_started, is_lock, transaction, segment_of, core_of}
 use Rattle.stm_core.specs.inner.Whole.{Whole}
 use Rattle.stm_core.specs.Outside.{Outer, InCore, OuterMove, Inner, OuterFollows}
-use Rattle.stm_core.specs.Devices.{DeviceState}
+use Rattle.stm_segment.specs.Devices.{DeviceState}
 use Rattle.stm_core.specs.SaneCore.{StandsFor, SaneCore, LeadsBetween}
 use Rattle.stm_core.specs.Begun.{IsReady, IsUnready, UnreadyAt, Begun, IsFresh}
-use Rattle.stm_core.proofs.Publish.{get_set_other}
-use Rattle.stm_core.proofs.Fits.{get_set_same, sum_set}
+use Rattle.stm_segment.proofs.Fits.{get_set_other, get_set_same, sum_set}
 use Rattle.stm_core.proofs.StandsAgain.{stands_told}
 use Rattle.stm_core.proofs.Soundness.{sound_run}
 use Rattle.stm_core.proofs.Committing.{running_work}

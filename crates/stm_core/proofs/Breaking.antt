@@ -3,9 +3,9 @@
 use Rattle.std.proofs.Common.{◌≡◌, ◌≢◌, ℕ, zero, suc, Option, refl}
 use Rattle.std.specs.List.{range_with_len}
 use Rattle.seg_store.specs.Meaning.{Meaning}
-use Rattle.stm_core.specs.declared.books.Cut.{Cut}
-use Rattle.stm_core.specs.declared.books.Books.{Books}
-use Rattle.stm_core.specs.CoreState.{Transaction, Idle, CoreState, with_segment}
+use Rattle.stm_segment.specs.declared.books.Cut.{Cut}
+use Rattle.stm_segment.specs.declared.books.Books.{Books}
+use Rattle.stm_segment.specs.CoreState.{Transaction, Idle, CoreState, with_segment}
 use Rattle.stm_core.specs.Passes.{after_commit}
 use Rattle.stm_core.specs.Solo.{up_to_whole}
 use Rattle.stm_core.specs.inner.Whole.{Whole}

@@ -6,20 +6,20 @@ use Rattle.py_data.specs.Heap.{Heap}
 use Rattle.lock_run.specs.Prog.{Prog}
 use Rattle.seg_store.specs.Meaning.{Meaning}
 use Rattle.seg_store.specs.Store.{IsStore}
-use Rattle.stm_core.specs.declared.books.Work.{Work}
-use Rattle.stm_core.specs.declared.books.Hand.{Hand}
-use Rattle.stm_core.specs.declared.books.Hand.TheVariants as hand
-use Rattle.stm_core.specs.declared.books.Books.{Books}
+use Rattle.stm_segment.specs.declared.books.Work.{Work}
+use Rattle.stm_segment.specs.declared.books.Hand.{Hand}
+use Rattle.stm_segment.specs.declared.books.Hand.TheVariants as hand
+use Rattle.stm_segment.specs.declared.books.Books.{Books}
 use Rattle.stm_core.specs.declared.events.Event.TheVariants as event
 use Rattle.stm_core.specs.declared.transactions.Core.{Core}
 use Rattle.stm_io.specs.Outside.{SourceState, SinkState}
 use Rattle.stm_core.specs.Outside.{Outer}
-use Rattle.stm_core.specs.Devices.{DeviceState, device_state, CountsGrow}
-use Rattle.stm_core.specs.Books.{Worlds, segment_of, core_of}
+use Rattle.stm_segment.specs.Devices.{DeviceState, device_state, CountsGrow}
+use Rattle.stm_segment.specs.Books.{Worlds, segment_of, core_of}
 use Rattle.stm_core.specs.Standing.{slot_of}
 use Rattle.stm_core.specs.inner.Whole.{Whole, SameShape}
 use Rattle.stm_core.specs.SaneCore.{StandsFor, SaneCore, CauseRose, LeadsBetween}
-use Rattle.stm_core.specs.Begun.{CountsSteps}
+use Rattle.stm_core.specs.Begun.{CountsSteps, Begun}
 use Rattle.stm_core.specs.CoreHeld.{core_devices, first_devices, CoreStands, Leads, IsFullKept, IsGoodCore, SameJob}
 use Rattle.stm_core.specs.Events.{Limits, is_busy, is_within, may_make}
 use Rattle.stm_core.specs.declared.answers.Advance.{Advance}
@@ -30,11 +30,10 @@ use Rattle.stm_core.specs.declared.answers.Advance.TheVariants.{Ran, Waits, Ende
 use Rattle.stm_core.specs.declared.answers.AdvanceError.TheVariants.{Lost, Failed}
 use Rattle.stm_core.specs.declared.begin.BeginError.{BeginError}
 use Rattle.stm_core.specs.declared.begin.BeginError.TheVariants.{Over, Busy, NotReady, AtBudget, OutOfMemory as NoMemoryError}
-use Rattle.stm_core.specs.declared.cause.Cause.{Cause}
-use Rattle.stm_core.specs.declared.cause.Cause.TheVariants.{Full, ReadFault, WriteFault, ErrFault, OutOfMemory}
-use Rattle.stm_core.specs.CoreState.{no_world, IsShort, Transaction, Segment, Idle, Doomed, Running, CoreState, with_segment, with_conflict}
-use Rattle.stm_core.specs.Begun.{Begun}
-use Rattle.stm_core.specs.Moves.{first_cause, begun_at}
+use Rattle.stm_segment.specs.declared.cause.Cause.{Cause}
+use Rattle.stm_segment.specs.declared.cause.Cause.TheVariants.{Full, ReadFault, WriteFault, ErrFault, OutOfMemory}
+use Rattle.stm_segment.specs.CoreState.{no_world, IsShort, Transaction, Segment, Idle, Doomed, Running, CoreState, with_segment, with_conflict, first_cause}
+use Rattle.stm_core.specs.Moves.{begun_at}
 use Rattle.stm_core.specs.Advanced.{IsStepCause, IsSoloCause, Fails, Ends, StepsTaken, AdvancedFrom, Advanced}
 
 -- any worlds will do to tell what doesn't depend on them

@@ -11,22 +11,22 @@ use Rattle.py_data.specs.Heap.{Marks}
 use Rattle.py_data.specs.World.{World}
 use Rattle.seg_store.specs.Meaning.{Part, Meaning}
 use Rattle.seg_store.specs.Calls.{ended, after_drop}
-use Rattle.stm_core.specs.declared.books.Work.{Work}
-use Rattle.stm_core.specs.declared.books.Hand.{Hand}
-use Rattle.stm_core.specs.declared.books.Hand.TheVariants.{Idle as IdleHand, Doomed as DoomedHand, Runs}
-use Rattle.stm_core.specs.declared.books.Books.{Books}
-use Rattle.stm_core.specs.CoreState.{no_world, Transaction, Doomed, Running, CoreState, with_segment, with_conflict}
-use Rattle.stm_core.specs.Conflict.{conflict, side, wins, IsStanding}
-use Rattle.stm_core.specs.Books.{Worlds, is_running, runs_at, side_of, transaction, segment_of, core_of}
+use Rattle.stm_segment.specs.declared.books.Work.{Work}
+use Rattle.stm_segment.specs.declared.books.Hand.{Hand}
+use Rattle.stm_segment.specs.declared.books.Hand.TheVariants.{Idle as IdleHand, Doomed as DoomedHand, Runs}
+use Rattle.stm_segment.specs.declared.books.Books.{Books}
+use Rattle.stm_segment.specs.CoreState.{no_world, Transaction, Doomed, Running, CoreState, with_segment, with_conflict}
+use Rattle.stm_segment.specs.Conflict.{conflict, side, wins, IsStanding}
+use Rattle.stm_segment.specs.Books.{Worlds, is_running, runs_at, side_of, transaction, segment_of, core_of}
 use Rattle.stm_core.specs.Passes.{met, doom_met, doom_one, doom_readers, NoneWins}
 use Rattle.stm_core.specs.inner.Trying.{core_with}
 use Rattle.stm_core.specs.inner.Readers.{read_at, work_side, Beats, FirstBeats}
 use Rattle.lock_run.specs.Prog.{Prog}
 use Rattle.stm_core.specs.Committed.{Beaten}
 use Rattle.stm_core.proofs.TwoPasses.{met_some}
-use Rattle.stm_core.proofs.Fits.{work_at, runs_within}
+use Rattle.stm_segment.proofs.Fits.{work_at, runs_within}
 use Rattle.stm_core.proofs.Stepping.{set_swap}
-use Rattle.stm_core.proofs.Holding.{core_doomed}
+use Rattle.stm_segment.proofs.Holding.{core_doomed}
 
 -- ---- the first record that was looked at
 

@@ -9,12 +9,12 @@ use Rattle.py_data.specs.declared.stop.Out.TheVariants.{Output, ErrorOutput}
 use Rattle.py_data.specs.Heap.{Heap}
 use Rattle.py_data.specs.Row.{Call, Reply, Read, Find, Edit, Make, Start, Put, Take, MidLine, SetMidLine}
 use Rattle.stm_io.specs.Outside.{Rose}
-use Rattle.stm_core.specs.declared.halt.Halt.{Halt}
-use Rattle.stm_core.specs.declared.halt.Halt.TheVariants as halt
-use Rattle.stm_core.specs.inner.Halts.{stop_of}
-use Rattle.stm_core.specs.Devices.{DeviceState, IsLeftAlone, CountsGrow, StopRose}
-use Rattle.stm_core.specs.inner.Hold.{Hold, SegWhy}
-use Rattle.stm_core.specs.inner.Outer.{OuterDoes, WriteRefused, ErrRefused, TakeRefused, OuterRefuses, OuterOpens, OuterUndoes}
+use Rattle.stm_segment.specs.declared.halt.Halt.{Halt}
+use Rattle.stm_segment.specs.declared.halt.Halt.TheVariants as halt
+use Rattle.stm_segment.specs.inner.Halts.{stop_of}
+use Rattle.stm_segment.specs.Devices.{DeviceState, IsLeftAlone, CountsGrow, StopRose}
+use Rattle.stm_segment.specs.inner.Hold.{Hold, SegWhy}
+use Rattle.stm_segment.specs.inner.Outer.{OuterDoes, WriteRefused, ErrRefused, TakeRefused, OuterRefuses, OuterOpens, OuterUndoes}
 
 -- ---- one call
 

@@ -10,27 +10,26 @@ use Rattle.lock_run.specs.declared.client.Outcome.{Outcome}
 use Rattle.lock_run.specs.declared.turn.Turn.{Turn}
 use Rattle.lock_run.specs.Prog.{Prog}
 use Rattle.seg_store.specs.Meaning.{Meaning}
-use Rattle.stm_core.specs.declared.books.Work.{Work}
-use Rattle.stm_core.specs.declared.books.Hand.TheVariants.{Idle as IdleHand}
-use Rattle.stm_core.specs.declared.books.Books.{Books}
+use Rattle.stm_segment.specs.declared.books.Work.{Work}
+use Rattle.stm_segment.specs.declared.books.Hand.TheVariants.{Idle as IdleHand}
+use Rattle.stm_segment.specs.declared.books.Books.{Books}
 use Rattle.stm_core.specs.declared.steps.Pause.{Pause}
-use Rattle.stm_core.specs.declared.halt.Halt.{Halt}
-use Rattle.stm_core.specs.declared.halt.Halt.TheVariants as halt
+use Rattle.stm_segment.specs.declared.halt.Halt.{Halt}
+use Rattle.stm_segment.specs.declared.halt.Halt.TheVariants as halt
 use Rattle.stm_core.specs.declared.steps.Pause.TheVariants.{Whole, Waits, Ended, Stopped}
 use Rattle.stm_core.specs.declared.answers.Advance.{Advance}
 use Rattle.stm_core.specs.declared.answers.AdvanceError.{AdvanceError}
 use Rattle.stm_core.specs.declared.answers.Advance.TheVariants as answer
 use Rattle.stm_core.specs.declared.answers.AdvanceError.TheVariants.{Lost, Failed}
-use Rattle.stm_core.specs.declared.cause.Cause.{Cause}
-use Rattle.stm_core.specs.declared.cause.Cause.TheVariants.{Full, ReadFault, WriteFault, ErrFault, OutOfMemory}
-use Rattle.stm_core.specs.CoreState.{Transaction, Idle, CoreState, sight_of, with_segment, with_conflict}
-use Rattle.stm_core.specs.Asking.{WaitsThere, AsksOutside}
-use Rattle.stm_core.specs.Conflict.{IsStanding}
-use Rattle.stm_core.specs.Moves.{first_cause}
+use Rattle.stm_segment.specs.declared.cause.Cause.{Cause}
+use Rattle.stm_segment.specs.declared.cause.Cause.TheVariants.{Full, ReadFault, WriteFault, ErrFault, OutOfMemory}
+use Rattle.stm_segment.specs.CoreState.{Transaction, Idle, CoreState, sight_of, with_segment, with_conflict, first_cause}
+use Rattle.stm_segment.specs.Asking.{WaitsThere, AsksOutside}
+use Rattle.stm_segment.specs.Conflict.{IsStanding}
 use Rattle.stm_core.specs.Outside.{Outer, FaultOf}
 use Rattle.stm_core.specs.Solo.{up_to_whole, SoloFailed}
-use Rattle.stm_core.specs.Devices.{DeviceState, Tells, Shown}
-use Rattle.stm_core.specs.Books.{Worlds, broken_of, transaction, core_of}
+use Rattle.stm_segment.specs.Devices.{DeviceState, Tells, Shown}
+use Rattle.stm_segment.specs.Books.{Worlds, broken_of, transaction, core_of}
 use Rattle.stm_core.specs.inner.Whole.{StopOf}
 use Rattle.stm_core.specs.inner.Trying.{core_with}
 use Rattle.stm_core.specs.Advanced.{StepReaches, IsStepCause, IsSoloCause, with_cause, Fails, Ends}

@@ -9,14 +9,14 @@ use Rattle.lock_run.specs.RunState.{first_world}
 use Rattle.py_data.specs.Sight.{mem}
 use Rattle.lock_run.specs.Prog.{Prog}
 use Rattle.seg_store.specs.Meaning.{Part, Meaning, holds}
-use Rattle.stm_core.specs.declared.books.Hand.{Hand}
-use Rattle.stm_core.specs.declared.books.Hand.TheVariants.{Idle as IdleHand, Doomed as DoomedHand, Runs}
-use Rattle.stm_core.specs.declared.books.Books.{Books}
-use Rattle.stm_core.specs.CoreState.{no_world, Idle, CoreState, core_new, with_segment}
-use Rattle.stm_core.specs.Books.{Worlds, broken_of, AllIdle, IsFirst, is_running, runs_at, one_running, one_started, segment_of, core_of}
+use Rattle.stm_segment.specs.declared.books.Hand.{Hand}
+use Rattle.stm_segment.specs.declared.books.Hand.TheVariants.{Idle as IdleHand, Doomed as DoomedHand, Runs}
+use Rattle.stm_segment.specs.declared.books.Books.{Books}
+use Rattle.stm_segment.specs.CoreState.{no_world, Idle, CoreState, core_new, with_segment}
+use Rattle.stm_segment.specs.Books.{Worlds, broken_of, AllIdle, IsFirst, is_running, runs_at, one_running, one_started, segment_of, core_of}
 use Rattle.stm_core.specs.inner.Whole.{Whole}
 use Rattle.stm_core.specs.Outside.{outer_new}
-use Rattle.stm_core.specs.Devices.{DeviceState, CountsGrow}
+use Rattle.stm_segment.specs.Devices.{DeviceState, CountsGrow}
 use Rattle.stm_core.specs.SaneCore.{StandsFor, CauseRose, SaneCore}
 use Rattle.stm_core.specs.Finishing.{idle_core, IsUnused}
 use Rattle.stm_core.proofs.OutsideLemmas.{kept_new}

@@ -4,7 +4,7 @@ use Rattle.lock_run.specs.Prog.{Prog}
 use Rattle.stm_core.specs.declared.events.Event.{Event}
 use Rattle.stm_core.specs.declared.events.Reply.{Reply}
 use Rattle.stm_core.specs.declared.events.Reply.TheVariants.{Skipped}
-use Rattle.stm_core.specs.CoreState.{CoreState}
+use Rattle.stm_segment.specs.CoreState.{CoreState}
 use Rattle.stm_core.specs.Outside.{Outer}
 use Rattle.stm_core.specs.Events.{Limits, may_make, Made, MadeIf, EventMade, EventsMade}
 use Rattle.stm_core.specs.SaneCore.{LeadsBetween}

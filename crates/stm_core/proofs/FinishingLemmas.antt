@@ -10,21 +10,21 @@ use Rattle.lock_run.specs.RunState.{first_world}
 use Rattle.lock_run.specs.Prog.{Prog}
 use Rattle.lock_run.specs.Machine.{begin_with}
 use Rattle.seg_store.specs.Meaning.{Meaning}
-use Rattle.stm_core.specs.declared.books.Work.{Work}
-use Rattle.stm_core.specs.declared.books.Hand.TheVariants.{Runs}
-use Rattle.stm_core.specs.declared.books.Books.{Books}
-use Rattle.stm_core.specs.declared.cause.Cause.{Cause}
-use Rattle.stm_core.specs.declared.cause.Cause.TheVariants.{Full, ReadFault, WriteFault, ErrFault, OutOfMemory}
+use Rattle.stm_segment.specs.declared.books.Work.{Work}
+use Rattle.stm_segment.specs.declared.books.Hand.TheVariants.{Runs}
+use Rattle.stm_segment.specs.declared.books.Books.{Books}
+use Rattle.stm_segment.specs.declared.cause.Cause.{Cause}
+use Rattle.stm_segment.specs.declared.cause.Cause.TheVariants.{Full, ReadFault, WriteFault, ErrFault, OutOfMemory}
 use Rattle.stm_core.specs.declared.commit.Commit.{Commit}
 use Rattle.stm_core.specs.declared.commit.Commit.TheVariants.{Committed as AtTurn, Nothing}
 use Rattle.stm_core.specs.declared.standing.RunState.{RunState}
 use Rattle.stm_core.specs.declared.transactions.Core.{Core}
-use Rattle.stm_core.specs.CoreState.{Transaction, Segment, Idle, Running, CoreState, with_segment}
-use Rattle.stm_core.specs.Conflict.{loser}
+use Rattle.stm_segment.specs.CoreState.{Transaction, Segment, Idle, Running, CoreState, with_segment}
+use Rattle.stm_segment.specs.Conflict.{loser}
 use Rattle.stm_core.specs.Moves.{Move, Drops, Follows}
 use Rattle.stm_core.specs.Outside.{Outer, InCore, Inner, OuterFollows, told_through}
-use Rattle.stm_core.specs.Devices.{DeviceState, device_state}
-use Rattle.stm_core.specs.Books.{Worlds, transaction, segment_of, core_of, NoneSolo}
+use Rattle.stm_segment.specs.Devices.{DeviceState, device_state}
+use Rattle.stm_segment.specs.Books.{Worlds, transaction, segment_of, core_of, NoneSolo}
 use Rattle.stm_core.specs.Passes.{doom_readers}
 use Rattle.stm_core.specs.Committed.{Beaten, CommitEnds, CommitOf, Committed}
 use Rattle.stm_core.specs.SaneCore.{StandsFor, CauseRose}

@@ -1,9 +1,9 @@
 -- What a view gave last tells why a step over it was cut.
 use Rattle.std.proofs.Common.{◌≡◌, Result, Ok, Err, IfErr, OnErr, refl, ap, subst, sym, ◌∙◌}
 use Rattle.py_data.specs.declared.stop.Stop.{Stop}
-use Rattle.stm_core.specs.declared.halt.Halt.{Halt}
-use Rattle.stm_core.specs.declared.halt.Halt.TheVariants.{Lost, NeedSolo, Full, ReadFault, WriteFault, ErrFault, OutOfMemory}
-use Rattle.stm_core.specs.inner.Halts.{stop_of, halt_for, told}
+use Rattle.stm_segment.specs.declared.halt.Halt.{Halt}
+use Rattle.stm_segment.specs.declared.halt.Halt.TheVariants.{Lost, NeedSolo, Full, ReadFault, WriteFault, ErrFault, OutOfMemory}
+use Rattle.stm_segment.specs.inner.Halts.{stop_of, halt_for, told}
 
 given_again : (h : Halt) → halt_for (stop_of h) h ≡ h
 given_again (Lost f) = refl

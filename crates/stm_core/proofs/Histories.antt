@@ -17,7 +17,7 @@ use Rattle.stm_core.specs.declared.answers.AdvanceError.{AdvanceError}
 use Rattle.stm_core.specs.declared.answers.AdvanceError.TheVariants as advance
 use Rattle.stm_core.specs.declared.begin.BeginError.{BeginError}
 use Rattle.stm_core.specs.declared.begin.BeginError.TheVariants as begin
-use Rattle.stm_core.specs.declared.cause.Cause.TheVariants.{OutOfMemory as NoMemoryLeft}
+use Rattle.stm_segment.specs.declared.cause.Cause.TheVariants.{OutOfMemory as NoMemoryLeft}
 use Rattle.stm_core.specs.declared.commit.Commit.{Commit}
 use Rattle.stm_core.specs.declared.commit.Commit.TheVariants as commit
 use Rattle.stm_core.specs.declared.events.Event.{Event}
@@ -26,8 +26,8 @@ use Rattle.stm_core.specs.declared.events.Reply.{Reply}
 use Rattle.stm_core.specs.declared.events.Reply.TheVariants.{Skipped, Begun as HasBegun, Refused, Advanced as HasAdvanced, Solo as IsSolo, Unsolo, Committed as HasCommitted, Nothing, Lost, Failed, Installed, Unfit, OutOfMemory}
 use Rattle.stm_core.specs.declared.solo.SoloError.{SoloError}
 use Rattle.stm_core.specs.declared.solo.SoloError.TheVariants as solo
-use Rattle.stm_core.specs.CoreState.{Transaction, Segment, Idle, Doomed, Running, CoreState, fresh, soloed, turn_of, with_segment, with_conflict}
-use Rattle.stm_core.specs.Conflict.{loser, IsStanding}
+use Rattle.stm_segment.specs.CoreState.{Transaction, Segment, Idle, Doomed, Running, CoreState, fresh, soloed, turn_of, with_segment, with_conflict}
+use Rattle.stm_segment.specs.Conflict.{loser, IsStanding}
 use Rattle.stm_core.specs.Moves.{published, begun_at}
 use Rattle.stm_core.specs.Passes.{doom_readers, after_commit, NoneWins}
 use Rattle.stm_core.specs.Outside.{Outer}

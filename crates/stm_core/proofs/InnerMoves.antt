@@ -8,9 +8,9 @@ use Rattle.py_data.specs.Heap.{Heap}
 use Rattle.py_data.specs.World.{World}
 use Rattle.py_data.specs.Sight.{mem}
 use Rattle.lock_run.specs.Prog.{Prog}
-use Rattle.stm_core.specs.declared.cause.Cause.TheVariants.{Full, ReadFault, WriteFault, ErrFault, OutOfMemory}
-use Rattle.stm_core.specs.CoreState.{Transaction, Segment, Idle, Doomed, Running, CoreState, set_segment, with_segment, with_conflict}
-use Rattle.stm_core.specs.Conflict.{conflict, loser, IsStanding, AsksFrom}
+use Rattle.stm_segment.specs.declared.cause.Cause.TheVariants.{Full, ReadFault, WriteFault, ErrFault, OutOfMemory}
+use Rattle.stm_segment.specs.CoreState.{Transaction, Segment, Idle, Doomed, Running, CoreState, set_segment, with_segment, with_conflict}
+use Rattle.stm_segment.specs.Conflict.{conflict, loser, IsStanding, AsksFrom}
 use Rattle.stm_core.specs.Moves.{Move, Begins, Drops, Dooms, Loses, Goes, Rests, Commits, Keeps, Next, Follows}
 use Rattle.stm_core.specs.Passes.{met, doom_met, doom_one, doom_readers, after_commit, NoneWins}
 use Rattle.stm_core.specs.Advance.{Try, moves_of, IsStepOf, IsTry, Tried, Gone}

@@ -18,21 +18,20 @@ use Rattle.seg_store.specs.Store.{IsStore}
 use Rattle.stm_pieces.specs.Ends.{last_of}
 use Rattle.stm_pieces.specs.Piece.{IsPiece}
 use Rattle.stm_pieces.specs.Replay.{Replays}
-use Rattle.stm_core.specs.declared.books.Work.{Work}
-use Rattle.stm_core.specs.declared.books.Hand.TheVariants.{Idle as IdleHand, Doomed as DoomedHand, Runs}
-use Rattle.stm_core.specs.declared.books.Hand.{Hand}
-use Rattle.stm_core.specs.declared.books.Books.{Books}
+use Rattle.stm_segment.specs.declared.books.Work.{Work}
+use Rattle.stm_segment.specs.declared.books.Hand.TheVariants.{Idle as IdleHand, Doomed as DoomedHand, Runs}
+use Rattle.stm_segment.specs.declared.books.Hand.{Hand}
+use Rattle.stm_segment.specs.declared.books.Books.{Books}
 use Rattle.stm_core.specs.declared.answers.AdvanceError.TheVariants.{Failed}
-use Rattle.stm_core.specs.declared.cause.Cause.{Cause}
-use Rattle.stm_core.specs.declared.cause.Cause.TheVariants.{OutOfMemory}
+use Rattle.stm_segment.specs.declared.cause.Cause.{Cause}
+use Rattle.stm_segment.specs.declared.cause.Cause.TheVariants.{OutOfMemory}
 use Rattle.stm_core.specs.declared.steps.Pause.TheVariants.{Stopped}
-use Rattle.stm_core.specs.declared.halt.Halt.TheVariants as halt
-use Rattle.stm_core.specs.CoreState.{no_world, Transaction, Segment, Idle, Running, CoreState, sight_of, with_segment}
-use Rattle.stm_core.specs.Moves.{first_cause}
+use Rattle.stm_segment.specs.declared.halt.Halt.TheVariants as halt
+use Rattle.stm_segment.specs.CoreState.{no_world, Transaction, Segment, Idle, Running, CoreState, sight_of, with_segment, first_cause}
 use Rattle.stm_core.specs.Outside.{Outer, Kept, OuterLed}
 use Rattle.stm_core.specs.Advanced.{with_cause, Fails}
-use Rattle.stm_core.specs.Devices.{DeviceState, Tells}
-use Rattle.stm_core.specs.Books.{Fit, transaction, segment_of, core_of}
+use Rattle.stm_segment.specs.Devices.{DeviceState, Tells}
+use Rattle.stm_segment.specs.Books.{Fit, transaction, segment_of, core_of}
 use Rattle.stm_core.specs.Pieces.{Fits, FitsSegment, HasInstalled, IsGivenUp, IsInstalled}
 use Rattle.stm_core.specs.SaneCore.{StandsFor, CauseRose, LeadsBetween}
 use Rattle.stm_core.specs.CoreHeld.{IsFullKept}

@@ -16,7 +16,7 @@ use Rattle.stm_pieces.specs.Piece.{PieceSteps, IsPiece}
 use Rattle.stm_pieces.specs.inner.Walked.{Quiet}
 use Rattle.stm_pieces.proofs.Lift.{Lifted, lift}
 use Rattle.stm_pieces.proofs.Looks.{steps_way, looked_loaned, touched_there, quiet_before}
-use Rattle.stm_core.specs.CoreState.{Transaction, Segment, Running, CoreState, owned, sight_of, with_segment}
+use Rattle.stm_segment.specs.CoreState.{Transaction, Segment, Running, CoreState, owned, sight_of, with_segment}
 use Rattle.stm_core.specs.Good.{Shows, Stands, Good}
 use Rattle.stm_core.specs.Moves.{Move, Goes, Follows, Advances, IsFree}
 use Rattle.stm_core.specs.Pieces.{IsLoan, Fits, IsOwnStep, Installed}

@@ -8,13 +8,13 @@ use Rattle.py_data.proofs.Whole.{upto_steps, stopped_at}
 use Rattle.lock_run.specs.declared.client.Outcome.{Outcome}
 use Rattle.lock_run.specs.Client.{Stepped, StepStopped}
 use Rattle.lock_run.proofs.Following.{run_upto}
-use Rattle.stm_core.specs.Asking.{Changes}
-use Rattle.stm_core.specs.declared.halt.Halt.{Halt}
-use Rattle.stm_core.specs.Devices.{DeviceState, StopRose}
-use Rattle.stm_core.specs.inner.Halts.{stop_of, halt_for}
-use Rattle.stm_core.specs.inner.Hold.{Hold, Beside, SegRefuses, SegOpens, SegUndoes}
-use Rattle.stm_core.specs.inner.Outer.{OuterRefuses}
-use Rattle.stm_core.specs.inner.SegSense.{seg_sense, seg_bracket}
+use Rattle.stm_segment.specs.Asking.{Changes}
+use Rattle.stm_segment.specs.declared.halt.Halt.{Halt}
+use Rattle.stm_segment.specs.Devices.{DeviceState, StopRose}
+use Rattle.stm_segment.specs.inner.Halts.{stop_of, halt_for}
+use Rattle.stm_segment.specs.inner.Hold.{Hold, Beside, SegRefuses, SegOpens, SegUndoes}
+use Rattle.stm_segment.specs.inner.Outer.{OuterRefuses}
+use Rattle.stm_segment.specs.inner.SegSense.{seg_sense, seg_bracket}
 use Rattle.stm_core.proofs.Halting.{halt_given}
 use Rattle.stm_core.proofs.Counting.{DevicesKept, kept_same, kept_then, does_keeps, refuses_keeps, refuses_rose, rose_after, rose_cut, StepLeaves, leaves_done, leaves_cut, flag_cut}
 use Rattle.stm_core.proofs.Way.{call_beside, done_at}

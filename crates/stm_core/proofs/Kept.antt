@@ -18,13 +18,14 @@ use Rattle.lock_run.specs.Prog.{Prog}
 use Rattle.lock_run.specs.Machine.{Machine, Steps}
 use Rattle.lock_run.proofs.StepsMirror.{steps_grows}
 use Rattle.lock_run.proofs.Along.{runs_snoc}
-use Rattle.stm_core.specs.declared.cause.Cause.{Cause}
+use Rattle.stm_segment.specs.declared.cause.Cause.{Cause}
 use Rattle.seg_store.specs.Meaning.{overlay}
-use Rattle.stm_core.specs.CoreState.{Transaction, Segment, Idle, Doomed, Running, CoreState, committed, turn_of, world_after, sight_of, set_segment, with_segment, with_conflict, fresh}
-use Rattle.stm_core.specs.Conflict.{loser, winner, wins, IsStanding, IsConflict}
+use Rattle.stm_segment.specs.CoreState.{Transaction, Segment, Idle, Doomed, Running, CoreState, committed, turn_of, world_after, sight_of, set_segment, with_segment, with_conflict, fresh, first_cause}
+use Rattle.stm_segment.specs.Conflict.{loser, winner, wins, IsStanding, IsConflict}
 use Rattle.stm_core.specs.Good.{Stands, Apart, Unfinished, Good}
-use Rattle.stm_core.specs.Moves.{Advances, IsFree, Stays, first_cause, begun_at, published, Move, Begins, Drops, Dooms, Loses, Goes, Rests, Commits, Keeps, Next, Follows}
-use Rattle.stm_core.proofs.Publish.{publish_stands, publish_turn, get_set_other, get_append}
+use Rattle.stm_core.specs.Moves.{Advances, IsFree, Stays, begun_at, published, Move, Begins, Drops, Dooms, Loses, Goes, Rests, Commits, Keeps, Next, Follows}
+use Rattle.stm_core.proofs.Publish.{publish_stands, publish_turn, get_append}
+use Rattle.stm_segment.proofs.Fits.{get_set_other}
 
 pub advance_stands : {S : Type 0} (c : Prog S) (h : Heap) (ts : List S) (w : World) (x x' : Transaction S) →
     Stands c h ts w x → Advances c h w x x' → Stands c h ts w x'

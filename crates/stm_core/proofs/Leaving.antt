@@ -6,13 +6,13 @@ use Rattle.std.proofs.lemmas.List.Elements.{All-nil, All-weaker}
 use Rattle.py_data.specs.declared.stop.Conflict.{Conflict}
 use Rattle.py_data.specs.Sight.{mem}
 use Rattle.lock_run.specs.Prog.{Prog}
-use Rattle.stm_core.specs.declared.cause.Cause.{Cause}
+use Rattle.stm_segment.specs.declared.cause.Cause.{Cause}
 use Rattle.stm_core.specs.declared.events.Event.{Event}
 use Rattle.stm_core.specs.declared.events.Reply.{Reply}
 use Rattle.stm_core.specs.declared.events.Reply.TheVariants.{Failed}
 use Rattle.seg_store.specs.Meaning.{overlay}
-use Rattle.stm_core.specs.CoreState.{Transaction, Segment, Idle, Running, CoreState, turn_of, world_after, threads_after, with_segment}
-use Rattle.stm_core.specs.Moves.{first_cause, published}
+use Rattle.stm_segment.specs.CoreState.{Transaction, Segment, Idle, Running, CoreState, turn_of, world_after, threads_after, with_segment, first_cause}
+use Rattle.stm_core.specs.Moves.{published}
 use Rattle.stm_core.specs.Passes.{doom_readers, after_commit, NoneWins}
 use Rattle.stm_core.specs.Outside.{Outer}
 use Rattle.stm_core.specs.Advanced.{with_cause, Fails, EndsSo}

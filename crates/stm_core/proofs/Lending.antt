@@ -11,10 +11,10 @@ use Rattle.seg_store.specs.Meaning.{Meaning, sees, holds}
 use Rattle.stm_pieces.specs.declared.loan.Loan.{Loan}
 use Rattle.stm_pieces.specs.PieceOf.{piece_state}
 use Rattle.stm_pieces.specs.PieceState.{PieceState, IsNamed, with_base, with_loaned, but_at}
-use Rattle.stm_core.specs.declared.books.Hand.{Hand}
-use Rattle.stm_core.specs.Books.{runs_at}
+use Rattle.stm_segment.specs.declared.books.Hand.{Hand}
+use Rattle.stm_segment.specs.Books.{runs_at}
 use Rattle.stm_core.specs.inner.Lent.{AreLent, IsLentAt, MayLend, Lends}
-use Rattle.stm_core.proofs.Seeing.{at_there}
+use Rattle.stm_segment.proofs.Seeing.{at_there}
 
 -- none is there
 pub not_there : (o : Option Rec) → is_some o ≡ false → o ≡ None

@@ -15,19 +15,19 @@ use Rattle.stm_pieces.specs.declared.loan.Loan.{Loan}
 use Rattle.stm_pieces.specs.PieceOf.{piece_state}
 use Rattle.stm_core.specs.declared.answers.LoanError.{LoanError}
 use Rattle.stm_core.specs.declared.answers.LoanError.TheVariants.{OutOfMemory}
-use Rattle.stm_core.specs.declared.books.Work.{Work}
-use Rattle.stm_core.specs.declared.books.Hand.{Hand}
-use Rattle.stm_core.specs.declared.books.Hand.TheVariants.{Idle as IdleHand, Doomed as DoomedHand, Runs}
-use Rattle.stm_core.specs.declared.books.Books.{Books}
-use Rattle.stm_core.specs.CoreState.{CoreState}
+use Rattle.stm_segment.specs.declared.books.Work.{Work}
+use Rattle.stm_segment.specs.declared.books.Hand.{Hand}
+use Rattle.stm_segment.specs.declared.books.Hand.TheVariants.{Idle as IdleHand, Doomed as DoomedHand, Runs}
+use Rattle.stm_segment.specs.declared.books.Books.{Books}
+use Rattle.stm_segment.specs.CoreState.{CoreState}
 use Rattle.stm_core.specs.Outside.{Outer}
-use Rattle.stm_core.specs.Devices.{DeviceState}
-use Rattle.stm_core.specs.Books.{WorkFits, is_running, runs_at, transaction, segment_of, core_of}
+use Rattle.stm_segment.specs.Devices.{DeviceState}
+use Rattle.stm_segment.specs.Books.{WorkFits, is_running, runs_at, transaction, segment_of, core_of}
 use Rattle.stm_core.specs.inner.Whole.{Whole}
 use Rattle.stm_core.specs.inner.Lent.{AreLent, IsLoanFrom, FitsWork}
 use Rattle.stm_core.specs.SaneCore.{StandsFor, SaneCore, LeadsBetween}
 use Rattle.stm_core.specs.Pieces.{IsLoan, MayLoan, IsLent, IsLoaned, FitsSegment}
-use Rattle.stm_core.proofs.Fits.{work_at}
+use Rattle.stm_segment.proofs.Fits.{work_at}
 use Rattle.stm_core.proofs.StandsAgain.{good_now}
 use Rattle.stm_core.proofs.Installing.{loan_stands}
 

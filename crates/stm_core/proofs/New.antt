@@ -5,9 +5,9 @@ use Rattle.py_data.specs.declared.stop.Conflict.{Conflict}
 use Rattle.py_data.specs.World.{World}
 use Rattle.lock_run.specs.declared.turn.Turn.{Turn}
 use Rattle.lock_run.specs.Prog.{Prog}
-use Rattle.stm_core.specs.CoreState.{Transaction, Segment, Idle, Doomed, Running, committed, core_new}
+use Rattle.stm_segment.specs.CoreState.{Transaction, Segment, Idle, Doomed, Running, committed, core_new}
 use Rattle.stm_core.specs.Good.{Good}
-use Rattle.stm_core.specs.Conflict.{IsConflict}
+use Rattle.stm_segment.specs.Conflict.{IsConflict}
 
 no_run : {S : Type 0} (x : Transaction S) → ◌≡◌ {A = Segment S} Idle (Running x) → ⊥
 no_run x e = cc

@@ -11,13 +11,14 @@ use Rattle.lock_run.specs.Prog.{Prog}
 use Rattle.lock_run.specs.Machine.{Machine, Steps}
 use Rattle.lock_run.specs.Cut.{PartOf, Broken}
 use Rattle.lock_run.proofs.StepsMirror.{steps_grows}
-use Rattle.stm_core.specs.declared.cause.Cause.{Cause}
-use Rattle.stm_core.specs.declared.cause.Cause.TheVariants.{Full, ReadFault, WriteFault, ErrFault, OutOfMemory}
-use Rattle.stm_core.specs.CoreState.{Transaction, Segment, Idle, Doomed, Running, CoreState, committed, world_after, turn_of, set_segment, with_segment, fresh, soloed, core_new}
-use Rattle.stm_core.specs.Conflict.{loser, IsStanding}
+use Rattle.stm_segment.specs.declared.cause.Cause.{Cause}
+use Rattle.stm_segment.specs.declared.cause.Cause.TheVariants.{Full, ReadFault, WriteFault, ErrFault, OutOfMemory}
+use Rattle.stm_segment.specs.CoreState.{Transaction, Segment, Idle, Doomed, Running, CoreState, committed, world_after, turn_of, set_segment, with_segment, fresh, soloed, core_new, first_cause}
+use Rattle.stm_segment.specs.Conflict.{loser, IsStanding}
 use Rattle.stm_core.specs.Good.{Stands, Apart, Good}
-use Rattle.stm_core.specs.Moves.{first_cause, begun_at, published, Move, Begins, Drops, Dooms, Loses, Goes, Rests, Commits, Keeps, Next}
-use Rattle.stm_core.proofs.Publish.{get_set_other, get_append}
+use Rattle.stm_core.specs.Moves.{begun_at, published, Move, Begins, Drops, Dooms, Loses, Goes, Rests, Commits, Keeps, Next}
+use Rattle.stm_core.proofs.Publish.{get_append}
+use Rattle.stm_segment.proofs.Fits.{get_set_other}
 use Rattle.stm_core.proofs.Kept.{set_cases, same_run, loser_runs, good_replaced, good_next, is_conflict}
 use Rattle.stm_core.proofs.New.{good_new}
 use Rattle.stm_core.specs.Stood.{Stood}

@@ -17,21 +17,21 @@ use Rattle.lock_run.specs.Prog.{Prog}
 use Rattle.seg_store.specs.Meaning.{Meaning, sees, over}
 use Rattle.seg_store.specs.Store.{IsStore}
 use Rattle.stm_core.specs.declared.steps.Pause.{Pause}
-use Rattle.stm_core.specs.declared.halt.Halt.{Halt}
-use Rattle.stm_core.specs.declared.halt.Halt.TheVariants.{Lost, NeedSolo, Full, ReadFault, WriteFault, ErrFault, OutOfMemory}
+use Rattle.stm_segment.specs.declared.halt.Halt.{Halt}
+use Rattle.stm_segment.specs.declared.halt.Halt.TheVariants.{Lost, NeedSolo, Full, ReadFault, WriteFault, ErrFault, OutOfMemory}
 use Rattle.stm_core.specs.declared.steps.Pause.TheVariants.{Whole, Waits, Ended, Stopped}
-use Rattle.stm_core.specs.declared.books.Work.{Work}
-use Rattle.stm_core.specs.declared.books.Books.{Books}
-use Rattle.stm_core.specs.declared.books.Hand.TheVariants.{Runs}
-use Rattle.stm_core.specs.CoreState.{Transaction, Running, CoreState, sight_of}
-use Rattle.stm_core.specs.Conflict.{loser, winner, wins, side, IsMet, IsStanding, AsksFrom}
+use Rattle.stm_segment.specs.declared.books.Work.{Work}
+use Rattle.stm_segment.specs.declared.books.Books.{Books}
+use Rattle.stm_segment.specs.declared.books.Hand.TheVariants.{Runs}
+use Rattle.stm_segment.specs.CoreState.{Transaction, Running, CoreState, sight_of}
+use Rattle.stm_segment.specs.Conflict.{loser, winner, wins, side, IsMet, IsStanding, AsksFrom}
 use Rattle.stm_core.specs.Moves.{Stays}
-use Rattle.stm_core.specs.Books.{Worlds, with_own, transaction, segment_of, core_of, Fit}
-use Rattle.stm_core.specs.Asking.{WaitsThere, Reaches, AsksToChange, AsksOutside, AsksRoom}
-use Rattle.stm_core.specs.inner.Hold.{LosesTo}
+use Rattle.stm_segment.specs.Books.{Worlds, with_own, transaction, segment_of, core_of, Fit}
+use Rattle.stm_segment.specs.Asking.{WaitsThere, Reaches, AsksToChange, AsksOutside, AsksRoom}
+use Rattle.stm_segment.specs.inner.Hold.{LosesTo}
 use Rattle.stm_core.specs.Advance.{Tried}
 use Rattle.stm_core.specs.inner.Trying.{core_with, Sane}
-use Rattle.stm_core.specs.Devices.{DeviceState, Shown, ShowsWorld, IsLeftAlone}
+use Rattle.stm_segment.specs.Devices.{DeviceState, Shown, ShowsWorld, IsLeftAlone}
 use Rattle.stm_core.specs.inner.Whole.{stepped, CutWhy, StepDone, StepCut, StepBroke}
 use Rattle.stm_core.specs.inner.Pausing.{StopWhy, Paused}
 use Rattle.stm_core.proofs.Advancing.{tried_none, none_tried, all_gone, gone_step, gone_wait, gone_cut}

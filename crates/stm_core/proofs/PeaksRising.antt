@@ -7,17 +7,18 @@ use Rattle.lock_run.specs.declared.client.Outcome.{Outcome}
 use Rattle.lock_run.specs.declared.client.Life.TheVariants.{Lives}
 use Rattle.lock_run.specs.Prog.{Prog}
 use Rattle.seg_store.specs.Meaning.{Meaning}
-use Rattle.stm_core.specs.declared.books.Work.{Work}
-use Rattle.stm_core.specs.declared.books.Hand.TheVariants.{Idle, Runs}
-use Rattle.stm_core.specs.declared.books.Books.{Books}
+use Rattle.stm_segment.specs.declared.books.Work.{Work}
+use Rattle.stm_segment.specs.declared.books.Hand.TheVariants.{Idle, Runs}
+use Rattle.stm_segment.specs.declared.books.Books.{Books}
 use Rattle.stm_core.specs.declared.steps.Pause.TheVariants.{Whole}
-use Rattle.stm_core.specs.CoreState.{CoreState, sight_of}
+use Rattle.stm_segment.specs.CoreState.{CoreState, sight_of}
 use Rattle.stm_core.specs.Advanced.{Led}
-use Rattle.stm_core.specs.Devices.{DeviceState, Shown}
-use Rattle.stm_core.specs.Books.{Worlds, with_own, transaction}
+use Rattle.stm_segment.specs.Devices.{DeviceState, Shown}
+use Rattle.stm_segment.specs.Books.{Worlds, with_own, transaction}
 use Rattle.stm_core.specs.Outside.{Outer}
 use Rattle.stm_core.specs.SaneCore.{StandsFor}
-use Rattle.stm_core.specs.InUse.{IfTold, Moment, used_then, RisesWithin}
+use Rattle.stm_segment.specs.InUse.{IfTold}
+use Rattle.stm_core.specs.PeakRises.{Moment, used_then, RisesWithin}
 use Rattle.stm_core.specs.inner.Whole.{SameShape}
 use Rattle.stm_core.specs.inner.Trying.{core_with}
 use Rattle.stm_core.specs.inner.Pausing.{Paused}

@@ -13,14 +13,14 @@ use Rattle.stm_pieces.specs.PieceOf.{piece_state}
 use Rattle.stm_pieces.specs.PieceState.{SameTerms}
 use Rattle.stm_core.specs.declared.answers.LoanError.{LoanError}
 use Rattle.stm_core.specs.declared.answers.LoanError.TheVariants as loan
-use Rattle.stm_core.specs.declared.books.Books.{Books}
+use Rattle.stm_segment.specs.declared.books.Books.{Books}
 use Rattle.stm_core.specs.declared.events.Event.TheVariants as event
 use Rattle.stm_core.specs.declared.events.Reply.{Reply}
 use Rattle.stm_core.specs.declared.events.Reply.TheVariants.{Skipped, OutOfMemory}
-use Rattle.stm_core.specs.CoreState.{Segment, Idle, Doomed, Running, CoreState}
+use Rattle.stm_segment.specs.CoreState.{Segment, Idle, Doomed, Running, CoreState}
 use Rattle.stm_core.specs.Standing.{slot_of}
 use Rattle.stm_core.specs.Outside.{Outer}
-use Rattle.stm_core.specs.Devices.{DeviceState}
+use Rattle.stm_segment.specs.Devices.{DeviceState}
 use Rattle.stm_core.specs.SaneCore.{StandsFor, SaneCore, LeadsBetween}
 use Rattle.stm_core.specs.Pieces.{IsLoan, MayLoan, IsLent, IsLoaned, FitsSegment, HasInstalled, IsInstalled}
 use Rattle.stm_core.specs.Events.{Limits, loan_reply, piece_reply, is_busy, is_within, may_make, PieceRan, PieceFrom, Made}

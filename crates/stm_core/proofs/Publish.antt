@@ -11,16 +11,9 @@ use Rattle.lock_run.specs.Prog.{Prog}
 use Rattle.lock_run.specs.Machine.{DoesTurn}
 use Rattle.lock_run.proofs.StepsMirror.{steps_grows, steps_mirror}
 use Rattle.seg_store.specs.Meaning.{over, overlay}
-use Rattle.stm_core.specs.CoreState.{Transaction, owned, turn_of, world_after, threads_after}
+use Rattle.stm_segment.specs.CoreState.{Transaction, owned, turn_of, world_after, threads_after}
+use Rattle.stm_segment.proofs.Fits.{get_set_other}
 use Rattle.stm_core.specs.Good.{Stands, Apart}
-
-pub get_set_other : {X : Type 0} (xs : List X) (i j : ℕ) (x : X) → i ≢ j →
-    slice_get (slice_set xs i x) j ≡ slice_get xs j
-get_set_other [] i j x n = refl
-get_set_other (y ∷ xs) zero zero x n = absurd (n refl)
-get_set_other (y ∷ xs) zero (suc j) x n = refl
-get_set_other (y ∷ xs) (suc i) zero x n = refl
-get_set_other (y ∷ xs) (suc i) (suc j) x n = get_set_other xs i j x (λ e. n (ap suc e))
 
 pub get_append : {X : Type 0} (xs ys : List X) (j : ℕ) (x : X) → slice_get xs j ≡ Some x →
     slice_get (xs ++ ys) j ≡ Some x

@@ -13,26 +13,25 @@ use Rattle.lock_run.specs.declared.turn.Turn.{Turn}
 use Rattle.seg_store.specs.Meaning.{Part, Meaning, sees, holds}
 use Rattle.seg_store.specs.Calls.{ended, after_publish}
 use Rattle.seg_store.specs.Store.{IsStore}
-use Rattle.stm_core.specs.declared.books.Work.{Work}
-use Rattle.stm_core.specs.declared.books.Hand.{Hand}
-use Rattle.stm_core.specs.declared.books.Hand.TheVariants.{Idle as IdleHand, Doomed as DoomedHand, Runs}
-use Rattle.stm_core.specs.declared.books.Books.{Books}
+use Rattle.stm_segment.specs.declared.books.Work.{Work}
+use Rattle.stm_segment.specs.declared.books.Hand.{Hand}
+use Rattle.stm_segment.specs.declared.books.Hand.TheVariants.{Idle as IdleHand, Doomed as DoomedHand, Runs}
+use Rattle.stm_segment.specs.declared.books.Books.{Books}
 use Rattle.stm_core.specs.declared.commit.Commit.{Commit}
 use Rattle.stm_core.specs.declared.commit.Commit.TheVariants.{Committed as AtTurn, Nothing}
-use Rattle.stm_core.specs.CoreState.{no_world, Transaction, Segment, Idle, Doomed, Running, CoreState, set_segment, with_segment, with_conflict}
+use Rattle.stm_segment.specs.CoreState.{no_world, Transaction, Segment, Idle, Doomed, Running, CoreState, set_segment, with_segment, with_conflict}
 use Rattle.stm_core.specs.Good.{Good}
 use Rattle.stm_core.specs.Moves.{Move, Drops, Loses, Next, published}
-use Rattle.stm_core.specs.Books.{Worlds, worlds_after, WorkFits, is_running, runs_at, one_running, one_started, is_lock, transaction, segment_of, core_of, Fit}
+use Rattle.stm_segment.specs.Books.{Worlds, worlds_after, WorkFits, is_running, runs_at, one_running, one_started, is_lock, transaction, segment_of, core_of, Fit}
 use Rattle.stm_core.specs.Passes.{met, doom_met, doom_one, doom_readers}
 use Rattle.stm_core.specs.inner.Whole.{Whole}
 use Rattle.stm_core.specs.inner.Trying.{core_with}
 use Rattle.stm_core.specs.Outside.{Outer, InCore, Inner, IsInner, OuterLed, told_after}
-use Rattle.stm_core.specs.Devices.{DeviceState}
+use Rattle.stm_segment.specs.Devices.{DeviceState}
 use Rattle.stm_core.specs.SaneCore.{StandsFor, LeadsBetween}
 use Rattle.stm_core.specs.Begun.{CountsSteps}
 use Rattle.stm_core.specs.Committed.{Beaten, CommitEnds, CommitOf, Committed}
-use Rattle.stm_core.proofs.Publish.{get_set_other}
-use Rattle.stm_core.proofs.Fits.{get_set_same, sum_set, seen_image}
+use Rattle.stm_segment.proofs.Fits.{get_set_other, get_set_same, sum_set, seen_image}
 use Rattle.stm_core.proofs.InnerMoves.{commit_led}
 use Rattle.stm_core.proofs.StandsAgain.{stands_told}
 use Rattle.stm_core.proofs.Wholes.{Set, core_set}

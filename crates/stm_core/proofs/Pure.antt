@@ -10,13 +10,13 @@ use Rattle.lock_run.specs.Prog.{Prog}
 use Rattle.lock_run.proofs.Following.{run_upto, done_pure}
 use Rattle.seg_store.specs.Meaning.{Meaning}
 use Rattle.seg_store.specs.Store.{IsStore}
-use Rattle.stm_core.specs.declared.books.Work.{Work}
-use Rattle.stm_core.specs.declared.books.Books.{Books}
-use Rattle.stm_core.specs.CoreState.{no_world, sight_of}
-use Rattle.stm_core.specs.Conflict.{side}
-use Rattle.stm_core.specs.Books.{Worlds, transaction, Fit}
-use Rattle.stm_core.specs.inner.Halts.{gave_none}
-use Rattle.stm_core.specs.inner.Hold.{Hold, holding, sight}
+use Rattle.stm_segment.specs.declared.books.Work.{Work}
+use Rattle.stm_segment.specs.declared.books.Books.{Books}
+use Rattle.stm_segment.specs.CoreState.{no_world, sight_of}
+use Rattle.stm_segment.specs.Conflict.{side}
+use Rattle.stm_segment.specs.Books.{Worlds, transaction, Fit}
+use Rattle.stm_segment.specs.inner.Halts.{gave_none}
+use Rattle.stm_segment.specs.inner.Hold.{Hold, holding, sight}
 use Rattle.stm_core.specs.inner.Whole.{stepped, StepDone}
 use Rattle.stm_core.proofs.Advancing.{done_not_waits}
 use Rattle.stm_core.proofs.Stepping.{world_of, sight_is, advances}

@@ -7,22 +7,21 @@ use Rattle.py_data.specs.World.{World}
 use Rattle.seg_store.specs.Meaning.{Part, Meaning}
 use Rattle.seg_store.specs.Calls.{opened, after_change, after_open}
 use Rattle.seg_store.proofs.Sees.{own_part}
-use Rattle.stm_core.specs.declared.books.Progress.{Progress}
-use Rattle.stm_core.specs.declared.books.Work.{Work}
-use Rattle.stm_core.specs.declared.books.Books.{Books}
-use Rattle.stm_core.specs.declared.cause.Cause.TheVariants.{OutOfMemory}
-use Rattle.stm_core.specs.CoreState.{Running, CoreState, with_segment}
-use Rattle.stm_core.specs.Moves.{first_cause}
+use Rattle.stm_segment.specs.declared.books.Progress.{Progress}
+use Rattle.stm_segment.specs.declared.books.Work.{Work}
+use Rattle.stm_segment.specs.declared.books.Books.{Books}
+use Rattle.stm_segment.specs.declared.cause.Cause.TheVariants.{OutOfMemory}
+use Rattle.stm_segment.specs.CoreState.{Running, CoreState, with_segment, first_cause}
 use Rattle.stm_core.specs.Advanced.{with_cause}
 use Rattle.stm_core.specs.Solo.{up_to_whole}
-use Rattle.stm_core.specs.Books.{Worlds, Fit, transaction, core_of}
+use Rattle.stm_segment.specs.Books.{Worlds, Fit, transaction, core_of}
 use Rattle.stm_core.specs.inner.Trying.{core_with}
 use Rattle.stm_core.specs.inner.Replayed.{replayed}
 use Rattle.stm_core.specs.inner.PutIn.{further, HasPutIn, HasFailed}
 use Rattle.stm_core.specs.inner.Whole.{SameShape}
 use Rattle.stm_core.proofs.Calling.{blank}
-use Rattle.stm_core.proofs.Changing.{fit_change}
-use Rattle.stm_core.proofs.Holding.{core_own}
+use Rattle.stm_segment.proofs.Changing.{fit_change}
+use Rattle.stm_segment.proofs.Holding.{core_own}
 
 -- ---- the changes, one after another
 

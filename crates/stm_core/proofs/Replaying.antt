@@ -27,10 +27,10 @@ use Rattle.seg_store.specs.Store.{Where, CanChange, IsFull}
 use Rattle.seg_store.proofs.Sees.{own_part, other_part, change_shows}
 use Rattle.stm_pieces.specs.Piece.{IsPiece}
 use Rattle.stm_pieces.specs.Replay.{MayChange, Replays}
-use Rattle.stm_core.specs.declared.books.Work.{Work}
-use Rattle.stm_core.specs.declared.books.Books.{Books}
-use Rattle.stm_core.specs.Books.{Worlds, transaction, segment_of, core_of}
-use Rattle.stm_core.specs.CoreState.{Transaction, Segment, Running, CoreState, owned, with_segment}
+use Rattle.stm_segment.specs.declared.books.Work.{Work}
+use Rattle.stm_segment.specs.declared.books.Books.{Books}
+use Rattle.stm_segment.specs.Books.{Worlds, transaction, segment_of, core_of}
+use Rattle.stm_segment.specs.CoreState.{Transaction, Segment, Running, CoreState, owned, with_segment}
 use Rattle.stm_core.specs.Good.{Good}
 use Rattle.stm_core.specs.Moves.{Follows, Move, Begins, Drops, Dooms, Loses, Goes, Rests, Commits, Keeps}
 use Rattle.stm_core.specs.Outside.{Outer, Kept, OuterLed}

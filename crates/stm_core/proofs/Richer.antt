@@ -6,9 +6,9 @@ use Rattle.py_data.specs.Row.{Call, Reply, Row, Ret, Do}
 use Rattle.py_data.specs.Sense.{Sense, Bracket, Run, Stopped}
 use Rattle.lock_run.specs.Client.{Stepped, StepStopped}
 use Rattle.lock_run.specs.declared.client.Outcome.{Outcome}
-use Rattle.stm_core.specs.Devices.{DeviceState}
-use Rattle.stm_core.specs.inner.Hold.{Hold}
-use Rattle.stm_core.specs.inner.SegSense.{with_more, with_both, seg_sense, seg_bracket, SamePeaks, Tells, TellsRefused, told_sense, told_bracket}
+use Rattle.stm_segment.specs.Devices.{DeviceState}
+use Rattle.stm_segment.specs.inner.Hold.{Hold}
+use Rattle.stm_segment.specs.inner.SegSense.{with_more, with_both, seg_sense, seg_bracket, SamePeaks, Tells, TellsRefused, told_sense, told_bracket}
 
 module _ {S X : Type 0} (u : Sense S X) (more : (c : Call S) → X → Reply c → X → Type 0)
     (refused : Call S → X → Stop → X → Type 0) where

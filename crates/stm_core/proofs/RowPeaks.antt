@@ -7,12 +7,12 @@ use Rattle.py_data.specs.Sense.{Run, Stopped, Upto}
 use Rattle.py_data.proofs.Whole.{stopped_at}
 use Rattle.lock_run.proofs.Following.{run_upto, upto_none}
 use Rattle.seg_store.specs.Meaning.{sees}
-use Rattle.stm_core.specs.Books.{Worlds}
-use Rattle.stm_core.specs.Devices.{DeviceState}
-use Rattle.stm_core.specs.InUse.{wants_more, next_more, RisesUpTo, IfTold}
-use Rattle.stm_core.specs.inner.Hold.{Hold}
-use Rattle.stm_core.specs.inner.SegSense.{seg_use, seg_sense, Tells, TellsRefused, told_sense}
-use Rattle.stm_core.proofs.Peaks.{told_same, told_then, rises_none}
+use Rattle.stm_segment.specs.Books.{Worlds}
+use Rattle.stm_segment.specs.Devices.{DeviceState}
+use Rattle.stm_segment.specs.InUse.{wants_more, next_more, RisesUpTo, IfTold}
+use Rattle.stm_segment.specs.inner.Hold.{Hold}
+use Rattle.stm_segment.specs.inner.SegSense.{seg_use, seg_sense, Tells, TellsRefused, told_sense}
+use Rattle.stm_segment.proofs.Peaks.{told_same, told_then, rises_none}
 
 module _ {S X : Type 0} (hold : X → Hold S) (devices : X → DeviceState) (segment : X → ℕ) (me : X → Side)
     (same : X → X → Type 0) (peaks : X → Option (ℕ → ℕ)) (w : Worlds) where

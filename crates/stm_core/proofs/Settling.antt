@@ -5,17 +5,16 @@ use Rattle.std.proofs.lemmas.Bool.{cases_Bool, both_ways, eqb-true, eqb-false, e
 use Rattle.std.proofs.lemmas.Option.{slice_get_within}
 use Rattle.py_data.specs.declared.stop.Conflict.{Conflict}
 use Rattle.seg_store.specs.Meaning.{Meaning}
-use Rattle.stm_core.specs.declared.books.Work.{Work}
-use Rattle.stm_core.specs.declared.books.Hand.TheVariants.{Idle as IdleHand, Doomed as DoomedHand, Runs}
-use Rattle.stm_core.specs.declared.books.Books.{Books}
-use Rattle.stm_core.specs.declared.cause.Cause.{Cause}
-use Rattle.stm_core.specs.CoreState.{Segment, Idle, Running, CoreState, set_segment, with_segment, with_conflict}
-use Rattle.stm_core.specs.Moves.{first_cause}
-use Rattle.stm_core.specs.Books.{Worlds, is_running, runs_at, one_running, one_started, transaction, segment_of, core_of}
+use Rattle.stm_segment.specs.declared.books.Work.{Work}
+use Rattle.stm_segment.specs.declared.books.Hand.TheVariants.{Idle as IdleHand, Doomed as DoomedHand, Runs}
+use Rattle.stm_segment.specs.declared.books.Books.{Books}
+use Rattle.stm_segment.specs.declared.cause.Cause.{Cause}
+use Rattle.stm_segment.specs.CoreState.{Segment, Idle, Running, CoreState, set_segment, with_segment, with_conflict, first_cause}
+use Rattle.stm_segment.specs.Books.{Worlds, is_running, runs_at, one_running, one_started, transaction, segment_of, core_of}
 use Rattle.stm_core.specs.inner.Whole.{Whole as WholeBooks}
 use Rattle.stm_core.specs.inner.Trying.{core_with}
 use Rattle.stm_core.specs.Advanced.{with_cause}
-use Rattle.stm_core.proofs.Fits.{sum_set}
+use Rattle.stm_segment.proofs.Fits.{sum_set}
 use Rattle.stm_core.proofs.Wholes.{Set, set_here, set_there, core_set}
 use Rattle.stm_core.proofs.Advancing.{set_again}
 

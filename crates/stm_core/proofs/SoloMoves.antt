@@ -12,15 +12,15 @@ use Rattle.lock_run.specs.Prog.{Prog}
 use Rattle.lock_run.specs.Machine.{Machine, Steps}
 use Rattle.lock_run.specs.Cut.{PartOf, RowCut, Broken}
 use Rattle.lock_run.proofs.Stepping.{get_set}
-use Rattle.stm_core.specs.declared.cause.Cause.{Cause}
+use Rattle.stm_segment.specs.declared.cause.Cause.{Cause}
 use Rattle.stm_core.specs.declared.solo.SoloError.{SoloError}
 use Rattle.stm_core.specs.declared.solo.SoloError.TheVariants.{Over, Lost, Taken}
 use Rattle.seg_store.specs.Meaning.{overlay}
-use Rattle.stm_core.specs.CoreState.{Transaction, Segment, Idle, Doomed, Running, CoreState, world_after, sight_of, with_segment}
-use Rattle.stm_core.specs.Conflict.{side, loser, wins, IsStanding}
+use Rattle.stm_segment.specs.CoreState.{Transaction, Segment, Idle, Doomed, Running, CoreState, world_after, sight_of, with_segment, first_cause}
+use Rattle.stm_segment.specs.Conflict.{side, loser, wins, IsStanding}
 use Rattle.stm_core.specs.Good.{Good}
-use Rattle.stm_core.specs.inner.Hold.{LosesTo}
-use Rattle.stm_core.specs.Moves.{Drops, first_cause}
+use Rattle.stm_segment.specs.inner.Hold.{LosesTo}
+use Rattle.stm_core.specs.Moves.{Drops}
 use Rattle.stm_core.specs.Passes.{met, doom_met, doom_one, doom_readers, after_commit, NoneWins}
 use Rattle.stm_core.specs.Outside.{Outer, Kept, Inner, Solos, Breaks, IsFreeThread, OuterNext, OuterLed}
 use Rattle.stm_core.specs.Solo.{SoloedFrom, Soloed, up_to_whole, SoloFailed}

@@ -6,18 +6,18 @@ use Rattle.py_data.specs.World.{World}
 use Rattle.py_data.specs.declared.stop.Conflict.{Conflict}
 use Rattle.lock_run.specs.Prog.{Prog}
 use Rattle.seg_store.specs.Meaning.{Meaning}
-use Rattle.stm_core.specs.declared.books.Work.{Work}
-use Rattle.stm_core.specs.declared.books.Hand.{Hand}
-use Rattle.stm_core.specs.declared.books.Hand.TheVariants.{Idle as IdleHand, Doomed as DoomedHand, Runs}
-use Rattle.stm_core.specs.declared.books.Books.{Books}
-use Rattle.stm_core.specs.declared.cause.Cause.{Cause}
+use Rattle.stm_segment.specs.declared.books.Work.{Work}
+use Rattle.stm_segment.specs.declared.books.Hand.{Hand}
+use Rattle.stm_segment.specs.declared.books.Hand.TheVariants.{Idle as IdleHand, Doomed as DoomedHand, Runs}
+use Rattle.stm_segment.specs.declared.books.Books.{Books}
+use Rattle.stm_segment.specs.declared.cause.Cause.{Cause}
 use Rattle.stm_core.specs.declared.solo.SoloError.{SoloError}
 use Rattle.stm_core.specs.declared.solo.SoloError.TheVariants.{Over, Lost, Taken}
-use Rattle.stm_core.specs.CoreState.{Transaction, Segment, Idle, Doomed, Running, CoreState, soloed, world_after, set_segment, with_segment}
+use Rattle.stm_segment.specs.CoreState.{Transaction, Segment, Idle, Doomed, Running, CoreState, soloed, world_after, set_segment, with_segment}
 use Rattle.stm_core.specs.Outside.{Outer, NoOtherSolo}
 use Rattle.stm_core.specs.Solo.{IsOtherSolo, SoloedFrom, Soloed}
-use Rattle.stm_core.specs.Devices.{DeviceState}
-use Rattle.stm_core.specs.Books.{Worlds, with_own, transaction, segment_of, core_of, NoneSolo, IsSoloAt}
+use Rattle.stm_segment.specs.Devices.{DeviceState}
+use Rattle.stm_segment.specs.Books.{Worlds, with_own, transaction, segment_of, core_of, NoneSolo, IsSoloAt}
 use Rattle.stm_core.specs.SaneCore.{StandsFor, LeadsBetween}
 use Rattle.stm_core.proofs.Committing.{running_work, mortal_segment}
 use Rattle.stm_core.proofs.Wholes.{Set, set_here, set_there, core_set}

@@ -9,7 +9,7 @@ use Rattle.lock_run.specs.declared.turn.Turn.{Turn}
 use Rattle.lock_run.specs.Machine.{Machine, Steps, DoesTurn, Runs}
 use Rattle.lock_run.proofs.Stepping.{get_set, set_set}
 use Rattle.seg_store.specs.Meaning.{overlay}
-use Rattle.stm_core.specs.CoreState.{Transaction, Running, CoreState}
+use Rattle.stm_segment.specs.CoreState.{Transaction, Running, CoreState}
 use Rattle.stm_core.specs.Good.{Good}
 
 set_self : {X : Type 0} (xs : List X) (i : ℕ) (x : X) → slice_get xs i ≡ Some x → slice_set xs i x ≡ xs

@@ -7,15 +7,15 @@ use Rattle.lock_run.specs.Client.{Waiting}
 use Rattle.lock_run.specs.Prog.{Prog}
 use Rattle.lock_run.specs.RunState.{SomeReady, AllWait}
 use Rattle.seg_store.specs.Meaning.{Meaning}
-use Rattle.stm_core.specs.declared.books.Books.{Books}
-use Rattle.stm_core.specs.declared.books.Work.{Work}
-use Rattle.stm_core.specs.declared.books.Hand.{Hand}
-use Rattle.stm_core.specs.declared.books.Hand.TheVariants.{Idle, Doomed, Runs}
-use Rattle.stm_core.specs.CoreState.{CoreState, committed}
-use Rattle.stm_core.specs.Books.{Worlds, one_running, core_of}
+use Rattle.stm_segment.specs.declared.books.Books.{Books}
+use Rattle.stm_segment.specs.declared.books.Work.{Work}
+use Rattle.stm_segment.specs.declared.books.Hand.{Hand}
+use Rattle.stm_segment.specs.declared.books.Hand.TheVariants.{Idle, Doomed, Runs}
+use Rattle.stm_segment.specs.CoreState.{CoreState, committed}
+use Rattle.stm_segment.specs.Books.{Worlds, one_running, core_of}
 use Rattle.stm_core.specs.Begun.{IsReady, IsUnready, UnreadyAt}
 use Rattle.stm_core.specs.Standing.{sooner, IsNext, FirstReady, NoneRuns, IsAtRest}
-use Rattle.stm_core.proofs.Fits.{sum_set}
+use Rattle.stm_segment.proofs.Fits.{sum_set}
 use Rattle.stm_core.proofs.Beginning.{beyond}
 use Rattle.stm_core.proofs.Committing.{running_work}
 

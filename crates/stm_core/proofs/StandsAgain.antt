@@ -5,10 +5,10 @@ use Rattle.lock_run.specs.RunState.{first_world}
 use Rattle.lock_run.specs.Prog.{Prog}
 use Rattle.lock_run.specs.Machine.{begin_with}
 use Rattle.seg_store.specs.Meaning.{Meaning}
-use Rattle.stm_core.specs.declared.books.Books.{Books}
+use Rattle.stm_segment.specs.declared.books.Books.{Books}
 use Rattle.stm_core.specs.Outside.{Outer, OuterMove, OuterFollows}
-use Rattle.stm_core.specs.Devices.{DeviceState, Tells}
-use Rattle.stm_core.specs.Books.{Worlds, broken_of, core_of}
+use Rattle.stm_segment.specs.Devices.{DeviceState, Tells}
+use Rattle.stm_segment.specs.Books.{Worlds, broken_of, core_of}
 use Rattle.stm_core.specs.SaneCore.{StandsFor, SaneCore, LeadsBetween}
 use Rattle.stm_core.specs.Good.{Good}
 use Rattle.stm_core.proofs.OutsideLemmas.{kept_after}

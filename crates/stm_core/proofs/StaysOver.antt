@@ -4,12 +4,12 @@ use Rattle.std.specs.List.{range_with_len}
 use Rattle.lock_run.specs.Prog.{Prog}
 use Rattle.lock_run.specs.Machine.{Machine}
 use Rattle.lock_run.specs.RunState.{IsDone, SomeReady}
-use Rattle.stm_core.specs.declared.cause.Cause.{Cause}
+use Rattle.stm_segment.specs.declared.cause.Cause.{Cause}
 use Rattle.stm_core.specs.declared.commit.Commit.{Commit}
 use Rattle.stm_core.specs.declared.commit.Commit.TheVariants.{Committed as AtTurn, Nothing}
 use Rattle.stm_core.specs.declared.standing.RunState.{RunState}
 use Rattle.stm_core.specs.declared.standing.RunState.TheVariants.{Running as GoesOn, Done, Stuck, Spent, Faulted}
-use Rattle.stm_core.specs.CoreState.{Transaction, Segment, Idle, Running, CoreState, committed}
+use Rattle.stm_segment.specs.CoreState.{Transaction, Segment, Idle, Running, CoreState, committed}
 use Rattle.stm_core.specs.Good.{Good}
 use Rattle.stm_core.specs.Outside.{Outer}
 use Rattle.stm_core.specs.Committed.{CommitEnds, CommitOf}

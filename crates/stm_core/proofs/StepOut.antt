@@ -23,27 +23,27 @@ use Rattle.seg_store.specs.Meaning.{Part, Meaning, sees, saw, holds}
 use Rattle.seg_store.specs.Calls.{opened, undone}
 use Rattle.seg_store.specs.Store.{IsStore}
 use Rattle.seg_store.proofs.Sees.{own_part, step_shows}
-use Rattle.stm_core.specs.declared.books.Work.{Work}
-use Rattle.stm_core.specs.declared.books.Books.{Books}
-use Rattle.stm_core.specs.declared.halt.Halt.{Halt}
-use Rattle.stm_core.specs.declared.halt.Halt.TheVariants.{Lost, NeedSolo, Full, ReadFault, WriteFault, ErrFault, OutOfMemory}
-use Rattle.stm_core.specs.CoreState.{Running, sight_of}
-use Rattle.stm_core.specs.Conflict.{side}
+use Rattle.stm_segment.specs.declared.books.Work.{Work}
+use Rattle.stm_segment.specs.declared.books.Books.{Books}
+use Rattle.stm_segment.specs.declared.halt.Halt.{Halt}
+use Rattle.stm_segment.specs.declared.halt.Halt.TheVariants.{Lost, NeedSolo, Full, ReadFault, WriteFault, ErrFault, OutOfMemory}
+use Rattle.stm_segment.specs.CoreState.{Running, sight_of}
+use Rattle.stm_segment.specs.Conflict.{side}
 use Rattle.stm_core.specs.Moves.{Stays}
-use Rattle.stm_core.specs.Asking.{Reaches, AsksToChange, AsksOutside, AsksRoom, AskedFor}
-use Rattle.stm_core.specs.Books.{runs_at, Worlds, transaction, core_of, Fit}
-use Rattle.stm_core.specs.Devices.{DeviceState, ShowsWorld, Shown}
-use Rattle.stm_core.specs.inner.Halts.{gave_none, halt_for}
-use Rattle.stm_core.specs.inner.Hold.{Hold, holding, sight, Dooms, SegOpens, SegUndoes, LosesTo}
-use Rattle.stm_core.specs.InUse.{core_use, next_more, IfTold}
+use Rattle.stm_segment.specs.Asking.{Reaches, AsksToChange, AsksOutside, AsksRoom, AskedFor}
+use Rattle.stm_segment.specs.Books.{runs_at, Worlds, transaction, core_of, Fit}
+use Rattle.stm_segment.specs.Devices.{DeviceState, ShowsWorld, Shown}
+use Rattle.stm_segment.specs.inner.Halts.{gave_none, halt_for}
+use Rattle.stm_segment.specs.inner.Hold.{Hold, holding, sight, Dooms, SegOpens, SegUndoes, LosesTo}
+use Rattle.stm_segment.specs.InUse.{core_use, next_more, IfTold}
 use Rattle.stm_core.specs.inner.Rising.{RisesInStep}
-use Rattle.stm_core.specs.inner.SegSense.{seg_use, seg_sense, seg_bracket}
+use Rattle.stm_segment.specs.inner.SegSense.{seg_use, seg_sense, seg_bracket}
 use Rattle.stm_core.specs.inner.Trying.{core_with}
 use Rattle.stm_core.specs.inner.Whole.{stepped, StepDone, StepCut, StepBroke, StopsAt, StopOf, CutWhy}
-use Rattle.stm_core.proofs.Holding.{core_own}
+use Rattle.stm_segment.proofs.Holding.{core_own}
 use Rattle.stm_core.proofs.Telling.{world_now, shown_now, tells_same}
-use Rattle.stm_core.proofs.Used.{use_apart}
-use Rattle.stm_core.proofs.Peaks.{told_weaker, beside_less}
+use Rattle.stm_segment.proofs.Used.{use_apart}
+use Rattle.stm_segment.proofs.Peaks.{told_weaker, beside_less}
 use Rattle.stm_core.proofs.RowPeaks.{UsedAt, RisesOn}
 use Rattle.stm_core.proofs.Way.{at_used, Way, way, RowDone, row_done}
 use Rattle.stm_core.proofs.Keeping.{upto_keeps, stop_keeps}

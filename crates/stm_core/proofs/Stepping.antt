@@ -14,17 +14,17 @@ use Rattle.lock_run.specs.declared.client.Life.TheVariants.{Lives}
 use Rattle.lock_run.specs.Prog.{Prog}
 use Rattle.seg_store.specs.Meaning.{Part, Meaning, sees, holds, over}
 use Rattle.seg_store.specs.Store.{IsStore}
-use Rattle.stm_core.specs.declared.books.Work.{Work}
-use Rattle.stm_core.specs.declared.books.Hand.{Hand}
-use Rattle.stm_core.specs.declared.books.Hand.TheVariants.{Idle as IdleHand, Doomed as DoomedHand, Runs}
-use Rattle.stm_core.specs.declared.books.Books.{Books}
-use Rattle.stm_core.specs.CoreState.{Transaction, Segment, Doomed, Running, CoreState, no_world, owned, sight_of, set_segment, with_segment, with_conflict}
-use Rattle.stm_core.specs.Conflict.{loser, winner, wins, side, IsMet, IsStanding}
+use Rattle.stm_segment.specs.declared.books.Work.{Work}
+use Rattle.stm_segment.specs.declared.books.Hand.{Hand}
+use Rattle.stm_segment.specs.declared.books.Hand.TheVariants.{Idle as IdleHand, Doomed as DoomedHand, Runs}
+use Rattle.stm_segment.specs.declared.books.Books.{Books}
+use Rattle.stm_segment.specs.CoreState.{Transaction, Segment, Doomed, Running, CoreState, no_world, owned, sight_of, set_segment, with_segment, with_conflict}
+use Rattle.stm_segment.specs.Conflict.{loser, winner, wins, side, IsMet, IsStanding}
 use Rattle.stm_core.specs.Good.{IsLocked}
-use Rattle.stm_core.specs.Asking.{Reaches, AsksToChange}
+use Rattle.stm_segment.specs.Asking.{Reaches, AsksToChange}
 use Rattle.stm_core.specs.Moves.{Advances, IsFree, Dooms as DoomsMove, Follows}
-use Rattle.stm_core.specs.Books.{WorkFits, is_lock, Worlds, transaction, segment_of, core_of}
-use Rattle.stm_core.specs.inner.Hold.{Hold, sight, Dooms}
+use Rattle.stm_segment.specs.Books.{WorkFits, is_lock, Worlds, transaction, segment_of, core_of}
+use Rattle.stm_segment.specs.inner.Hold.{Hold, sight, Dooms}
 use Rattle.stm_core.proofs.Way.{at_used}
 
 -- ---- the transaction of the segment

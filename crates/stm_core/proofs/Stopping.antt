@@ -16,21 +16,21 @@ use Rattle.py_data.proofs.Whole.{stopped_at}
 use Rattle.lock_run.proofs.Following.{upto_none}
 use Rattle.seg_store.specs.Meaning.{Meaning, sees, over}
 use Rattle.seg_store.specs.Store.{IsStore}
-use Rattle.stm_core.specs.declared.books.Work.{Work}
-use Rattle.stm_core.specs.declared.halt.Halt.{Halt}
-use Rattle.stm_core.specs.declared.halt.Halt.TheVariants.{Lost, NeedSolo, Full, OutOfMemory}
-use Rattle.stm_core.specs.CoreState.{no_world}
+use Rattle.stm_segment.specs.declared.books.Work.{Work}
+use Rattle.stm_segment.specs.declared.halt.Halt.{Halt}
+use Rattle.stm_segment.specs.declared.halt.Halt.TheVariants.{Lost, NeedSolo, Full, OutOfMemory}
+use Rattle.stm_segment.specs.CoreState.{no_world}
 use Rattle.stm_core.specs.Moves.{Stays}
-use Rattle.stm_core.specs.Asking.{IsOuter, Changes, AskedFor, LooksNext, ChangesNext}
-use Rattle.stm_core.specs.Books.{transaction, is_lock}
-use Rattle.stm_core.specs.Devices.{DeviceState, Shown}
-use Rattle.stm_core.specs.inner.Halts.{stop_of, halt_for}
-use Rattle.stm_core.specs.inner.Hold.{Hold, sight, SegRefuses, SegWhy}
-use Rattle.stm_core.specs.inner.Outer.{WriteRefused, ErrRefused, OuterRefuses}
-use Rattle.stm_core.specs.inner.SegSense.{seg_sense}
+use Rattle.stm_segment.specs.Asking.{IsOuter, Changes, AskedFor, LooksNext, ChangesNext}
+use Rattle.stm_segment.specs.Books.{transaction, is_lock}
+use Rattle.stm_segment.specs.Devices.{DeviceState, Shown}
+use Rattle.stm_segment.specs.inner.Halts.{stop_of, halt_for}
+use Rattle.stm_segment.specs.inner.Hold.{Hold, sight, SegRefuses, SegWhy}
+use Rattle.stm_segment.specs.inner.Outer.{WriteRefused, ErrRefused, OuterRefuses}
+use Rattle.stm_segment.specs.inner.SegSense.{seg_sense}
 use Rattle.stm_core.specs.inner.Whole.{StopsAt, StopOf}
 use Rattle.stm_core.proofs.Halting.{halt_given}
-use Rattle.stm_core.proofs.Holding.{beside_then, beside_weaker}
+use Rattle.stm_segment.proofs.Holding.{beside_then, beside_weaker}
 use Rattle.stm_core.proofs.Telling.{Told, told_none, call_told, fault_of}
 use Rattle.stm_core.proofs.Way.{at_used, Way, way}
 use Rattle.stm_core.proofs.Keeping.{upto_keeps, refused_at}

@@ -11,23 +11,23 @@ use Rattle.lock_run.specs.RunState.{first_world}
 use Rattle.lock_run.specs.Prog.{Prog}
 use Rattle.lock_run.specs.Machine.{begin_with}
 use Rattle.seg_store.specs.Meaning.{Meaning}
-use Rattle.stm_core.specs.declared.books.Work.{Work}
-use Rattle.stm_core.specs.declared.books.Hand.TheVariants.{Idle as IdleHand, Doomed as DoomedHand, Runs}
-use Rattle.stm_core.specs.declared.books.Cut.{Cut}
-use Rattle.stm_core.specs.declared.books.Books.{Books}
+use Rattle.stm_segment.specs.declared.books.Work.{Work}
+use Rattle.stm_segment.specs.declared.books.Hand.TheVariants.{Idle as IdleHand, Doomed as DoomedHand, Runs}
+use Rattle.stm_segment.specs.declared.books.Cut.{Cut}
+use Rattle.stm_segment.specs.declared.books.Books.{Books}
 use Rattle.stm_core.specs.declared.steps.Pause.{Pause}
 use Rattle.stm_core.specs.declared.steps.Pause.TheVariants.{Whole, Waits, Ended, Stopped}
 use Rattle.stm_core.specs.declared.answers.Advance.{Advance}
 use Rattle.stm_core.specs.declared.answers.Advance.TheVariants.{Ended as EndedAnswer}
 use Rattle.stm_core.specs.declared.answers.AdvanceError.{AdvanceError}
 use Rattle.stm_core.specs.declared.answers.AdvanceError.TheVariants.{Lost}
-use Rattle.stm_core.specs.declared.cause.Cause.{Cause}
-use Rattle.stm_core.specs.declared.cause.Cause.TheVariants.{Full, ReadFault, WriteFault, ErrFault, OutOfMemory}
-use Rattle.stm_core.specs.CoreState.{no_world, IsShort, Transaction, Segment, Idle, Doomed, Running, CoreState, with_segment}
+use Rattle.stm_segment.specs.declared.cause.Cause.{Cause}
+use Rattle.stm_segment.specs.declared.cause.Cause.TheVariants.{Full, ReadFault, WriteFault, ErrFault, OutOfMemory}
+use Rattle.stm_segment.specs.CoreState.{no_world, IsShort, Transaction, Segment, Idle, Doomed, Running, CoreState, with_segment}
 use Rattle.stm_core.specs.Good.{Good}
 use Rattle.stm_core.specs.Outside.{Outer}
-use Rattle.stm_core.specs.Devices.{DeviceState, Tells, Shown, IsLeftAlone, CountsGrow}
-use Rattle.stm_core.specs.Books.{Worlds, with_own, broken_of, transaction, segment_of, core_of}
+use Rattle.stm_segment.specs.Devices.{DeviceState, Tells, Shown, IsLeftAlone, CountsGrow}
+use Rattle.stm_segment.specs.Books.{Worlds, with_own, broken_of, transaction, segment_of, core_of}
 use Rattle.stm_core.specs.inner.Pauses.{tried_by}
 use Rattle.stm_core.specs.inner.Pausing.{Paused, DevicesGrow, SaneAfter}
 use Rattle.stm_core.specs.Advance.{Gone}

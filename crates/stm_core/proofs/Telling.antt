@@ -9,11 +9,11 @@ use Rattle.py_data.specs.World.{World, ends_after, wrote, took, grown, shrunk}
 use Rattle.py_data.specs.Row.{Call, Reply, Row, Ret, Do, Read, Find, Edit, Make, Start, Put, Take, MidLine, SetMidLine}
 use Rattle.lock_run.specs.Cut.{PartOf}
 use Rattle.lock_run.proofs.Following.{grown_then}
-use Rattle.stm_core.specs.declared.halt.Halt.{Halt}
-use Rattle.stm_core.specs.declared.halt.Halt.TheVariants as halt
-use Rattle.stm_core.specs.Devices.{DeviceState, Tells, ShowsWorld}
-use Rattle.stm_core.specs.inner.Hold.{Hold, SegWhy}
-use Rattle.stm_core.specs.inner.Outer.{WriteRefused, ErrRefused, TakeRefused, OuterRefuses}
+use Rattle.stm_segment.specs.declared.halt.Halt.{Halt}
+use Rattle.stm_segment.specs.declared.halt.Halt.TheVariants as halt
+use Rattle.stm_segment.specs.Devices.{DeviceState, Tells, ShowsWorld}
+use Rattle.stm_segment.specs.inner.Hold.{Hold, SegWhy}
+use Rattle.stm_segment.specs.inner.Outer.{WriteRefused, ErrRefused, TakeRefused, OuterRefuses}
 use Rattle.stm_core.specs.inner.Whole.{StopOf}
 
 -- ---- the world that the devices show

@@ -6,8 +6,8 @@ use Rattle.py_data.specs.Heap.{Marks}
 use Rattle.py_data.specs.Sight.{mem}
 use Rattle.lock_run.specs.Prog.{Prog}
 use Rattle.lock_run.specs.Machine.{Machine}
-use Rattle.stm_core.specs.CoreState.{Transaction, Segment, Idle, Doomed, Running, CoreState, with_segment, with_conflict}
-use Rattle.stm_core.specs.Conflict.{conflict, wins, IsStanding}
+use Rattle.stm_segment.specs.CoreState.{Transaction, Segment, Idle, Doomed, Running, CoreState, with_segment, with_conflict}
+use Rattle.stm_segment.specs.Conflict.{conflict, wins, IsStanding}
 use Rattle.stm_core.specs.Good.{Good}
 use Rattle.stm_core.specs.Moves.{Move, Dooms, Commits, Next, Follows}
 use Rattle.stm_core.specs.Advanced.{IsOwn}

@@ -9,12 +9,12 @@ use Rattle.py_data.specs.Sense.{Run, Upto}
 use Rattle.py_data.specs.Sight.{Sight, Act, Does, pure}
 use Rattle.py_data.specs.Steady.{AsksToPrint, Writes, WritesThen}
 use Rattle.lock_run.proofs.Following.{run_upto, upto_none}
-use Rattle.stm_core.specs.Asking.{Changes, AskedFor}
-use Rattle.stm_core.specs.Devices.{DeviceState, ShowsWorld, Shown}
-use Rattle.stm_core.specs.inner.Hold.{Hold, sight, Beside, SegDoes}
-use Rattle.stm_core.specs.inner.Outer.{OuterDoes}
-use Rattle.stm_core.specs.inner.SegSense.{seg_sense}
-use Rattle.stm_core.proofs.Holding.{beside_refl, beside_then, beside_weaker}
+use Rattle.stm_segment.specs.Asking.{Changes, AskedFor}
+use Rattle.stm_segment.specs.Devices.{DeviceState, ShowsWorld, Shown}
+use Rattle.stm_segment.specs.inner.Hold.{Hold, sight, Beside, SegDoes}
+use Rattle.stm_segment.specs.inner.Outer.{OuterDoes}
+use Rattle.stm_segment.specs.inner.SegSense.{seg_sense}
+use Rattle.stm_segment.proofs.Holding.{beside_refl, beside_then, beside_weaker}
 use Rattle.stm_core.proofs.Telling.{shows_out, shows_err, shows_took}
 
 -- a sight with another world, that was used or not

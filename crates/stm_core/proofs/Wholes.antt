@@ -7,16 +7,15 @@ use Rattle.py_data.specs.Sight.{mem}
 use Rattle.py_data.specs.declared.stop.Conflict.{Conflict}
 use Rattle.seg_store.specs.Meaning.{Part, Meaning, holds}
 use Rattle.seg_store.specs.Calls.{ended, after_drop}
-use Rattle.stm_core.specs.declared.books.Progress.{Progress}
-use Rattle.stm_core.specs.declared.books.Work.{Work}
-use Rattle.stm_core.specs.declared.books.Hand.{Hand}
-use Rattle.stm_core.specs.declared.books.Hand.TheVariants.{Idle, Runs}
-use Rattle.stm_core.specs.declared.books.Books.{Books}
-use Rattle.stm_core.specs.CoreState.{set_segment, with_segment, with_conflict}
-use Rattle.stm_core.specs.Books.{Worlds, WorkFits, is_running, runs_at, one_running, one_started, is_lock, segment_of, core_of, Fit}
+use Rattle.stm_segment.specs.declared.books.Progress.{Progress}
+use Rattle.stm_segment.specs.declared.books.Work.{Work}
+use Rattle.stm_segment.specs.declared.books.Hand.{Hand}
+use Rattle.stm_segment.specs.declared.books.Hand.TheVariants.{Idle, Runs}
+use Rattle.stm_segment.specs.declared.books.Books.{Books}
+use Rattle.stm_segment.specs.CoreState.{set_segment, with_segment, with_conflict}
+use Rattle.stm_segment.specs.Books.{Worlds, WorkFits, is_running, runs_at, one_running, one_started, is_lock, segment_of, core_of, Fit}
 use Rattle.stm_core.specs.inner.Whole.{Whole}
-use Rattle.stm_core.proofs.Publish.{get_set_other}
-use Rattle.stm_core.proofs.Fits.{get_set_same, sum_set}
+use Rattle.stm_segment.proofs.Fits.{get_set_other, get_set_same, sum_set}
 
 -- another hand in the place of one, and the rest of the books
 pub record Set {S : Type 0} (k : ℕ) (h : Hand S) (b b1 : Books S) : Type 0 where

@@ -6,9 +6,9 @@ use Rattle.py_data.specs.Row.{Row, Ret}
 use Rattle.py_data.specs.World.{World}
 use Rattle.lock_run.specs.declared.client.Outcome.{Outcome}
 use Rattle.lock_run.specs.Prog.{Prog}
-use Rattle.stm_core.specs.CoreState.{CoreState, sight_of}
-use Rattle.stm_core.specs.Asking.{Went}
-use Rattle.stm_core.specs.Conflict.{AsksFrom}
+use Rattle.stm_segment.specs.CoreState.{CoreState, sight_of}
+use Rattle.stm_segment.specs.Asking.{Went}
+use Rattle.stm_segment.specs.Conflict.{AsksFrom}
 use Rattle.stm_core.specs.Moves.{Move, Dooms, Goes, Rests, Follows}
 
 -- A step of a transaction that was tried: the conflicts by which it doomed others on its way, and then the move that it

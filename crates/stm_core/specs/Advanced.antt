@@ -9,12 +9,12 @@ use Rattle.stm_core.specs.declared.answers.Advance.{Advance}
 use Rattle.stm_core.specs.declared.answers.Advance.TheVariants.{Ran, Waits, Ended, NeedSolo}
 use Rattle.stm_core.specs.declared.answers.AdvanceError.{AdvanceError}
 use Rattle.stm_core.specs.declared.answers.AdvanceError.TheVariants.{Lost, Failed}
-use Rattle.stm_core.specs.declared.cause.Cause.{Cause}
-use Rattle.stm_core.specs.declared.cause.Cause.TheVariants.{Full, ReadFault, WriteFault, ErrFault, OutOfMemory}
-use Rattle.stm_core.specs.CoreState.{IsShort, Transaction, Segment, Idle, Doomed, Running, CoreState, sight_of, with_segment, with_conflict}
-use Rattle.stm_core.specs.Asking.{WaitsThere, Reaches, AsksOutside, AsksRoom}
-use Rattle.stm_core.specs.Conflict.{loser, IsStanding, AsksFrom}
-use Rattle.stm_core.specs.Moves.{first_cause, published, Move, Drops, Dooms, Loses, Goes, Rests, Keeps, Follows}
+use Rattle.stm_segment.specs.declared.cause.Cause.{Cause}
+use Rattle.stm_segment.specs.declared.cause.Cause.TheVariants.{Full, ReadFault, WriteFault, ErrFault, OutOfMemory}
+use Rattle.stm_segment.specs.CoreState.{IsShort, Transaction, Segment, Idle, Doomed, Running, CoreState, sight_of, with_segment, with_conflict, first_cause}
+use Rattle.stm_segment.specs.Asking.{WaitsThere, Reaches, AsksOutside, AsksRoom}
+use Rattle.stm_segment.specs.Conflict.{loser, IsStanding, AsksFrom}
+use Rattle.stm_core.specs.Moves.{published, Move, Drops, Dooms, Loses, Goes, Rests, Keeps, Follows}
 use Rattle.stm_core.specs.Outside.{Outer}
 use Rattle.stm_core.specs.Solo.{SoloFailed}
 use Rattle.stm_core.specs.Advance.{Gone}

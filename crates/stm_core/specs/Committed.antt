@@ -5,8 +5,8 @@ use Rattle.py_data.specs.declared.stop.Conflict.{Conflict}
 use Rattle.lock_run.specs.Prog.{Prog}
 use Rattle.stm_core.specs.declared.commit.Commit.{Commit}
 use Rattle.stm_core.specs.declared.commit.Commit.TheVariants.{Committed as AtTurn, Nothing}
-use Rattle.stm_core.specs.CoreState.{Transaction, Segment, Idle, Doomed, Running, CoreState, with_segment, with_conflict}
-use Rattle.stm_core.specs.Conflict.{side, wins, IsStanding}
+use Rattle.stm_segment.specs.CoreState.{Transaction, Segment, Idle, Doomed, Running, CoreState, with_segment, with_conflict}
+use Rattle.stm_segment.specs.Conflict.{side, wins, IsStanding}
 use Rattle.stm_core.specs.Passes.{met, after_commit, NoneWins}
 
 -- The first pass of the writer x on segment i ends at a conflict that stands, with a reader that wins: of the running

@@ -6,11 +6,11 @@ use Rattle.stm_io.specs.Outside.{SourceState, SinkState}
 use Rattle.lock_run.specs.Prog.{Prog}
 use Rattle.seg_store.specs.Meaning.{Meaning}
 use Rattle.seg_store.specs.Store.{IsStore}
-use Rattle.stm_core.specs.declared.cause.Cause.{Cause}
-use Rattle.stm_core.specs.declared.cause.Cause.TheVariants.{Full}
+use Rattle.stm_segment.specs.declared.cause.Cause.{Cause}
+use Rattle.stm_segment.specs.declared.cause.Cause.TheVariants.{Full}
 use Rattle.stm_core.specs.declared.transactions.Core.{Core}
 use Rattle.stm_core.specs.Outside.{Outer}
-use Rattle.stm_core.specs.Devices.{DeviceState, device_state}
+use Rattle.stm_segment.specs.Devices.{DeviceState, device_state}
 use Rattle.stm_core.specs.inner.Whole.{Whole}
 use Rattle.stm_core.specs.SaneCore.{StandsFor, SaneCore, LeadsBetween}
 use Rattle.stm_core.specs.Begun.{CountsSteps}

@@ -3,7 +3,7 @@ use Rattle.std.specs.Prelude.{Some, Result, Err}
 use Rattle.stm_core.specs.declared.answers.Advance.{Advance}
 use Rattle.stm_core.specs.declared.answers.AdvanceError.{AdvanceError}
 use Rattle.stm_core.specs.declared.answers.AdvanceError.TheVariants.{Failed}
-use Rattle.stm_core.specs.Devices.{DeviceState, CountsGrow}
+use Rattle.stm_segment.specs.Devices.{DeviceState, CountsGrow}
 use Rattle.stm_core.specs.SaneCore.{CauseRose}
 
 -- at a fault of a device that device's count rose, or stands at its last number, whichever cause is kept

@@ -11,7 +11,7 @@ use Rattle.stm_core.specs.declared.answers.AdvanceError.{AdvanceError}
 use Rattle.stm_core.specs.declared.answers.AdvanceError.TheVariants as advance
 use Rattle.stm_core.specs.declared.answers.LoanError.{LoanError}
 use Rattle.stm_core.specs.declared.answers.LoanError.TheVariants as loan
-use Rattle.stm_core.specs.declared.cause.Cause.TheVariants.{OutOfMemory as NoMemoryLeft}
+use Rattle.stm_segment.specs.declared.cause.Cause.TheVariants.{OutOfMemory as NoMemoryLeft}
 use Rattle.stm_core.specs.declared.solo.SoloError.{SoloError}
 use Rattle.stm_core.specs.declared.commit.Commit.{Commit}
 use Rattle.stm_core.specs.declared.commit.Commit.TheVariants as commit
@@ -21,7 +21,7 @@ use Rattle.stm_core.specs.declared.events.Reply.{Reply}
 use Rattle.stm_core.specs.declared.events.Reply.TheVariants.{Skipped, Begun as HasBegun, Refused, Advanced as HasAdvanced, Solo as IsSolo, Unsolo, Committed as HasCommitted, Nothing, Lost, Failed, Installed, OutOfMemory}
 use Rattle.stm_core.specs.declared.standing.Slot.{Slot}
 use Rattle.stm_core.specs.declared.standing.Slot.TheVariants as slot
-use Rattle.stm_core.specs.CoreState.{is_short, Segment, Idle, Doomed, Running, CoreState, with_segment}
+use Rattle.stm_segment.specs.CoreState.{is_short, Segment, Idle, Doomed, Running, CoreState, with_segment}
 use Rattle.stm_core.specs.Standing.{slot_of}
 use Rattle.stm_core.specs.Outside.{Outer, InCore}
 use Rattle.stm_core.specs.Solo.{Soloed}

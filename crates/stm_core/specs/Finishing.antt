@@ -10,9 +10,9 @@ use Rattle.lock_run.specs.Machine.{begin_with}
 use Rattle.seg_store.specs.Meaning.{Part}
 use Rattle.stm_core.specs.declared.commit.Commit.{Commit}
 use Rattle.stm_core.specs.declared.standing.RunState.{RunState}
-use Rattle.stm_core.specs.CoreState.{Transaction, Idle, Running, CoreState}
+use Rattle.stm_segment.specs.CoreState.{Transaction, Idle, Running, CoreState}
 use Rattle.stm_core.specs.Outside.{Outer, InCore, Kept}
-use Rattle.stm_core.specs.Devices.{DeviceState, Tells, CountsGrow}
+use Rattle.stm_segment.specs.Devices.{DeviceState, Tells, CountsGrow}
 use Rattle.stm_core.specs.SaneCore.{CauseRose}
 use Rattle.stm_core.specs.Committed.{Committed}
 use Rattle.stm_core.specs.Standing.{IsOutcome}

@@ -11,8 +11,8 @@ use Rattle.lock_run.specs.declared.turn.Turn.{Turn}
 use Rattle.lock_run.specs.Prog.{Prog}
 use Rattle.lock_run.specs.Machine.{Machine, Steps, Runs}
 use Rattle.seg_store.specs.Meaning.{over}
-use Rattle.stm_core.specs.CoreState.{IsShort, Transaction, Doomed, Running, CoreState, committed, owned}
-use Rattle.stm_core.specs.Conflict.{loser, IsConflict}
+use Rattle.stm_segment.specs.CoreState.{IsShort, Transaction, Doomed, Running, CoreState, committed, owned}
+use Rattle.stm_segment.specs.Conflict.{loser, IsConflict}
 
 -- a lock: on a tracked record of the image, which counts as looked at
 pub record IsLocked (image : Heap) (looked : Marks) (a : ℕ) : Type 0 where

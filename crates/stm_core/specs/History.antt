@@ -12,8 +12,8 @@ use Rattle.stm_core.specs.declared.events.Event.TheVariants as event
 use Rattle.stm_core.specs.declared.events.Reply.{Reply}
 use Rattle.stm_core.specs.declared.events.Reply.TheVariants.{Unsolo, Committed as HasCommitted, Lost, Failed}
 use Rattle.stm_core.specs.declared.solo.SoloError.TheVariants as solo
-use Rattle.stm_core.specs.CoreState.{Transaction, Segment, Idle, Doomed, Running, CoreState, turn_of, world_after, threads_after}
-use Rattle.stm_core.specs.Conflict.{side, loser}
+use Rattle.stm_segment.specs.CoreState.{Transaction, Segment, Idle, Doomed, Running, CoreState, turn_of, world_after, threads_after}
+use Rattle.stm_segment.specs.Conflict.{side, loser}
 use Rattle.stm_core.specs.Moves.{Move, Goes, published}
 use Rattle.stm_core.specs.Advanced.{Led, EndsSo, StoodBetween}
 use Rattle.stm_core.specs.Events.{Limits}

@@ -12,14 +12,14 @@ use Rattle.lock_run.specs.Prog.{Prog}
 use Rattle.seg_store.specs.Meaning.{overlay}
 use Rattle.stm_core.specs.declared.answers.Advance.TheVariants.{Ran, Waits, Ended}
 use Rattle.stm_core.specs.declared.answers.AdvanceError.TheVariants as advance
-use Rattle.stm_core.specs.declared.cause.Cause.{Cause}
-use Rattle.stm_core.specs.declared.cause.Cause.TheVariants.{WriteFault, OutOfMemory}
+use Rattle.stm_segment.specs.declared.cause.Cause.{Cause}
+use Rattle.stm_segment.specs.declared.cause.Cause.TheVariants.{WriteFault, OutOfMemory}
 use Rattle.stm_core.specs.declared.events.Event.{Event}
 use Rattle.stm_core.specs.declared.events.Event.TheVariants.{Begin, Advance, Solo, Commit, Piece}
 use Rattle.stm_core.specs.declared.events.Reply.TheVariants.{Skipped, Begun, Unsolo, Committed, Nothing, Lost, Failed, Installed}
 use Rattle.stm_core.specs.declared.solo.SoloError.TheVariants as solo
-use Rattle.stm_core.specs.CoreState.{Transaction, Idle, Doomed, Running, CoreState, no_world, turn_of, with_segment}
-use Rattle.stm_core.specs.Conflict.{conflict}
+use Rattle.stm_segment.specs.CoreState.{Transaction, Idle, Doomed, Running, CoreState, no_world, turn_of, with_segment}
+use Rattle.stm_segment.specs.Conflict.{conflict}
 use Rattle.stm_core.specs.Moves.{published}
 use Rattle.stm_core.specs.Advanced.{with_cause, tried_after, IsOwn}
 use Rattle.stm_core.specs.Events.{Limits}

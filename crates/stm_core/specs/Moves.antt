@@ -9,12 +9,12 @@ use Rattle.py_data.specs.Sight.{Sight, opened, mem}
 use Rattle.lock_run.specs.declared.client.Life.TheVariants.{Lives}
 use Rattle.lock_run.specs.Prog.{Prog}
 use Rattle.lock_run.specs.Machine.{Step, Steps}
-use Rattle.stm_core.specs.declared.cause.Cause.{Cause}
-use Rattle.stm_core.specs.declared.cause.Cause.TheVariants.{Full, OutOfMemory}
-use Rattle.stm_core.specs.Asking.{Reaches, AsksRoom}
+use Rattle.stm_segment.specs.declared.cause.Cause.{Cause}
+use Rattle.stm_segment.specs.declared.cause.Cause.TheVariants.{Full, OutOfMemory}
+use Rattle.stm_segment.specs.Asking.{Reaches, AsksRoom}
 use Rattle.seg_store.specs.Meaning.{over, overlay}
-use Rattle.stm_core.specs.CoreState.{IsShort, Transaction, Idle, Doomed, Running, CoreState, owned, turn_of, world_after, threads_after, sight_of, set_segment, with_segment, with_conflict, fresh}
-use Rattle.stm_core.specs.Conflict.{loser, IsStanding}
+use Rattle.stm_segment.specs.CoreState.{IsShort, Transaction, Idle, Doomed, Running, CoreState, owned, turn_of, world_after, threads_after, sight_of, set_segment, with_segment, with_conflict, fresh, first_cause}
+use Rattle.stm_segment.specs.Conflict.{loser, IsStanding}
 use Rattle.stm_core.specs.Good.{IsLocked, Shows}
 
 -- one step more of a transaction, over what it sees, which leaves what it has then
@@ -67,11 +67,6 @@ abbrev pub IsMetBy : {S : Type 0} → Prog S → ℕ → CoreState S → S → C
 IsMetBy p most k q (Full r n l) = ComesToWant p most k.image k.world q n × (l < r + n)
 IsMetBy p most k q OutOfMemory = Unit {0}
 IsMetBy p most k q _ = ⊥
-
--- the first cause stays
-abbrev pub first_cause : Option Cause → Cause → Option Cause
-first_cause None e = Some e
-first_cause (Some d) e = Some d
 
 -- the thread t began on segment i
 abbrev pub begun_at : {S : Type 0} → ℕ → ℕ → S → CoreState S → CoreState S

@@ -10,11 +10,11 @@ use Rattle.lock_run.specs.declared.client.Life.TheVariants.{Lives}
 use Rattle.lock_run.specs.Prog.{Prog}
 use Rattle.lock_run.specs.Machine.{Machine}
 use Rattle.lock_run.specs.Cut.{RowCut, Broken, Broke}
-use Rattle.stm_core.specs.declared.cause.Cause.{Cause}
-use Rattle.stm_core.specs.declared.cause.Cause.TheVariants.{ReadFault, WriteFault, ErrFault}
-use Rattle.stm_core.specs.CoreState.{Transaction, Running, CoreState, soloed, with_segment}
+use Rattle.stm_segment.specs.declared.cause.Cause.{Cause}
+use Rattle.stm_segment.specs.declared.cause.Cause.TheVariants.{ReadFault, WriteFault, ErrFault}
+use Rattle.stm_segment.specs.CoreState.{Transaction, Running, CoreState, soloed, with_segment, first_cause}
 use Rattle.stm_core.specs.Good.{Good}
-use Rattle.stm_core.specs.Moves.{first_cause, Move, Goes, Keeps, Next}
+use Rattle.stm_core.specs.Moves.{Move, Goes, Keeps, Next}
 use Rattle.stm_core.specs.Stood.{Stood}
 
 -- The core, what its devices were told since the run began, as a world, and the step that was cut for good, if one was.

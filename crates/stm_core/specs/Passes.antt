@@ -1,8 +1,8 @@
 -- A commit in its two passes: who has looked at what it changes, and whom it dooms. States `docs/HEAP.md`, "Commit".
 use Rattle.std.specs.Prelude.{◌≡◌, ◌≢◌, ℕ, true, false, cond, eqb, List, [], ◌∷◌, Option, Some, None}
 use Rattle.py_data.specs.Heap.{Marks}
-use Rattle.stm_core.specs.CoreState.{Transaction, Segment, Idle, Doomed, Running, CoreState, with_segment, with_conflict}
-use Rattle.stm_core.specs.Conflict.{side, conflict, wins}
+use Rattle.stm_segment.specs.CoreState.{Transaction, Segment, Idle, Doomed, Running, CoreState, with_segment, with_conflict}
+use Rattle.stm_segment.specs.Conflict.{side, conflict, wins}
 use Rattle.stm_core.specs.Moves.{published}
 
 -- the first of these records that was looked at

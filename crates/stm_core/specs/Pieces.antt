@@ -10,8 +10,8 @@ use Rattle.stm_pieces.specs.declared.loan.Loan.{Loan}
 use Rattle.stm_pieces.specs.PieceOf.{piece_state}
 use Rattle.stm_core.specs.declared.answers.LoanError.{LoanError}
 use Rattle.stm_core.specs.declared.answers.LoanError.TheVariants.{Lost, OutOfMemory}
-use Rattle.stm_core.specs.declared.cause.Cause.TheVariants.{OutOfMemory as NoMemoryLeft}
-use Rattle.stm_core.specs.CoreState.{Transaction, Segment, Idle, Doomed, Running, owned, with_segment}
+use Rattle.stm_segment.specs.declared.cause.Cause.TheVariants.{OutOfMemory as NoMemoryLeft}
+use Rattle.stm_segment.specs.CoreState.{Transaction, Segment, Idle, Doomed, Running, owned, with_segment}
 use Rattle.stm_core.specs.Moves.{Move, Goes, Follows}
 use Rattle.stm_core.specs.Outside.{Outer}
 use Rattle.stm_core.specs.Advanced.{Fails}

@@ -7,12 +7,12 @@ use Rattle.lock_run.specs.RunState.{first_world}
 use Rattle.lock_run.specs.Prog.{Prog}
 use Rattle.lock_run.specs.Machine.{begin_with}
 use Rattle.seg_store.specs.Meaning.{Meaning}
-use Rattle.stm_core.specs.declared.cause.Cause.{Cause}
-use Rattle.stm_core.specs.declared.cause.Cause.TheVariants.{ReadFault, WriteFault, ErrFault}
-use Rattle.stm_core.specs.declared.books.Books.{Books}
+use Rattle.stm_segment.specs.declared.cause.Cause.{Cause}
+use Rattle.stm_segment.specs.declared.cause.Cause.TheVariants.{ReadFault, WriteFault, ErrFault}
+use Rattle.stm_segment.specs.declared.books.Books.{Books}
 use Rattle.stm_core.specs.Outside.{Outer, Kept}
-use Rattle.stm_core.specs.Devices.{DeviceState, Tells, CountsGrow}
-use Rattle.stm_core.specs.Books.{Worlds, broken_of, core_of}
+use Rattle.stm_segment.specs.Devices.{DeviceState, Tells, CountsGrow}
+use Rattle.stm_segment.specs.Books.{Worlds, broken_of, core_of}
 
 -- Store and books stand for this state of the core, and the devices, which were `first` when the core was made, were
 -- told what it says. The state keeps all that a core keeps, from the machine's first state over that input on.

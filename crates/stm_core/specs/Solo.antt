@@ -6,11 +6,10 @@ use Rattle.py_data.specs.World.{World}
 use Rattle.lock_run.specs.declared.client.Life.TheVariants.{Lives}
 use Rattle.lock_run.specs.Prog.{Prog}
 use Rattle.lock_run.specs.Cut.{RowCut}
-use Rattle.stm_core.specs.declared.cause.Cause.{Cause}
+use Rattle.stm_segment.specs.declared.cause.Cause.{Cause}
 use Rattle.stm_core.specs.declared.solo.SoloError.{SoloError}
 use Rattle.stm_core.specs.declared.solo.SoloError.TheVariants.{Over, Lost, Taken}
-use Rattle.stm_core.specs.CoreState.{Transaction, Segment, Idle, Doomed, Running, CoreState, soloed, sight_of, with_segment}
-use Rattle.stm_core.specs.Moves.{first_cause}
+use Rattle.stm_segment.specs.CoreState.{Transaction, Segment, Idle, Doomed, Running, CoreState, soloed, sight_of, with_segment, first_cause}
 use Rattle.stm_core.specs.Passes.{after_commit}
 use Rattle.stm_core.specs.Outside.{Outer, FaultOf, NoOtherSolo}
 

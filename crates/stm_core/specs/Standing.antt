@@ -7,7 +7,7 @@ use Rattle.stm_core.specs.declared.standing.Slot.{Slot}
 use Rattle.stm_core.specs.declared.standing.Slot.TheVariants as slot
 use Rattle.stm_core.specs.declared.standing.RunState.{RunState}
 use Rattle.stm_core.specs.declared.standing.RunState.TheVariants.{Running as GoesOn, Done, Stuck, Spent, Faulted}
-use Rattle.stm_core.specs.CoreState.{Transaction, Segment, Idle, Doomed, Running, CoreState, committed}
+use Rattle.stm_segment.specs.CoreState.{Transaction, Segment, Idle, Doomed, Running, CoreState, committed}
 use Rattle.stm_core.specs.Begun.{IsReady, IsUnready}
 
 -- what a segment has in hand, as the caller is told

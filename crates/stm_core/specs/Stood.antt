@@ -5,8 +5,8 @@ use Rattle.py_data.specs.Sight.{mem}
 use Rattle.lock_run.specs.declared.turn.Turn.{Turn}
 use Rattle.lock_run.specs.Prog.{Prog}
 use Rattle.lock_run.specs.Machine.{Machine, Runs}
-use Rattle.stm_core.specs.CoreState.{Transaction}
-use Rattle.stm_core.specs.Conflict.{conflict, loser, winner, wins, IsMet}
+use Rattle.stm_segment.specs.CoreState.{Transaction}
+use Rattle.stm_segment.specs.Conflict.{conflict, loser, winner, wins, IsMet}
 use Rattle.stm_core.specs.Good.{Stands, Apart}
 
 -- A conflict stood: a front of the history is a run to a machine over which two transactions of different segments

@@ -12,9 +12,9 @@ use Rattle.lock_run.specs.declared.client.Life.TheVariants.{Lives}
 use Rattle.lock_run.specs.declared.turn.Turn.{Turn}
 use Rattle.lock_run.specs.Prog.{Prog}
 use Rattle.lock_run.specs.Machine.{Machine}
-use Rattle.stm_core.specs.CoreState.{no_world, Transaction, Running, CoreState, fresh, core_new, with_segment}
-use Rattle.stm_core.specs.Asking.{Changes}
-use Rattle.stm_core.specs.Conflict.{conflict, loser, winner, wins, IsStanding}
+use Rattle.stm_segment.specs.CoreState.{no_world, Transaction, Running, CoreState, fresh, core_new, with_segment}
+use Rattle.stm_segment.specs.Asking.{Changes}
+use Rattle.stm_segment.specs.Conflict.{conflict, loser, winner, wins, IsStanding}
 use Rattle.stm_core.specs.Good.{IsLocked, Stands}
 use Rattle.stm_core.specs.Stood.{Stood}
 

@@ -1,17 +1,12 @@
 -- What code and proofs say to each other: nothing public rests on it.
 pub mod Ending
 pub mod Going
-pub mod Halts
-pub mod Hold
-pub mod Outer
 pub mod Pauses
 pub mod Pausing
 pub mod PutIn
 pub mod Readers
 pub mod Replayed
 pub mod Rising
-pub mod SegLaws
-pub mod SegSense
 pub mod Settled
 pub mod Whole
 pub mod Trying

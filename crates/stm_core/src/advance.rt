@@ -1,24 +1,23 @@
 //! How a transaction goes on: at most so many steps of it, and what comes of them.
 use crate::answers::{Advance, AdvanceError};
-use crate::books::{Hand, Work};
-use crate::cause::Cause;
-use crate::halt::Halt;
 use crate::steps::Pause;
 use crate::transactions::Core;
 use lock_run::{Client, Life};
 use seg_store::SegStore;
 use stm_io::{Sink, Source};
+use stm_segment::{Cause, Halt, Hand, Work};
 
 impl<'p, C: Client, S: SegStore, I: Source, O: Sink, E: Sink> Core<'p, C, S, I, O, E> {
     ghost use Rattle.std.specs.Prelude.{◌≡◌, ◌<◌, ◌≤◌, ◌+◌, ◌/◌, ℕ, true, false, length, slice_get, Some, List, Option};
     ghost use Rattle.lock_run.specs.declared.client.Life.TheVariants.{Lives};
-    ghost use Rattle.stm_core.specs.CoreState.{IsShort, Running};
+    ghost use Rattle.stm_segment.specs.CoreState.{IsShort, Running};
     ghost use Rattle.stm_core.specs.Outside.{Outer};
-    ghost use Rattle.stm_core.specs.Devices.{DeviceState, StopRose, device_state};
-    ghost use Rattle.stm_core.specs.Books.{Fit, Worlds, transaction};
+    ghost use Rattle.stm_segment.specs.Devices.{DeviceState, StopRose, device_state};
+    ghost use Rattle.stm_segment.specs.Books.{Fit, Worlds, transaction};
     ghost use Rattle.stm_core.specs.inner.Ending.{HasEnded, MayEnd};
     ghost use Rattle.stm_core.specs.inner.Going.{MayGoOn, GoneOn};
-    ghost use Rattle.stm_core.specs.InUse.{IfTold, RisesWithin};
+    ghost use Rattle.stm_segment.specs.InUse.{IfTold};
+    ghost use Rattle.stm_core.specs.PeakRises.{RisesWithin};
     ghost use Rattle.stm_core.specs.Begun.{CountsSteps};
     ghost use Rattle.stm_core.specs.Events.{may_make};
     ghost use Rattle.stm_core.specs.declared.events.Event.{Event};

@@ -2,9 +2,9 @@
 ghost use Rattle.std.specs.Prelude.{◌≡◌};
 ghost use Rattle.stm_core.specs.declared.answers.LoanError.TheVariants.{OutOfMemory};
 
-use crate::cause::Cause;
 use py_data::Conflict;
 use std::alloc::AllocError;
+use stm_segment::Cause;
 use thiserror::Error;
 
 /// How steps of a transaction that goes on came to an end, and how many of them this call did.

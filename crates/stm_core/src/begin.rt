@@ -1,15 +1,12 @@
 //! How a transaction begins.
 ghost use Rattle.std.specs.Prelude.{◌≡◌};
 
-use crate::books::{Hand, Progress, Work};
-use crate::cause::Cause;
-use crate::recent::Recent;
-use crate::threads::Started;
 use crate::transactions::Core;
 use lock_run::Client;
 use py_data::{Items, NoMemory};
 use seg_store::SegStore;
 use stm_io::{Sink, Source};
+use stm_segment::{Cause, Hand, Progress, Recent, Started, Work};
 use thiserror::Error;
 
 /// Why no transaction begins. The first of these that holds is told.
@@ -37,7 +34,7 @@ impl<'p, C: Client, S: SegStore, I: Source, O: Sink, E: Sink> Core<'p, C, S, I, 
     ghost use Rattle.std.specs.List.{sum_by};
     ghost use Rattle.stm_core.specs.Moves.{begun_at};
     ghost use Rattle.stm_core.specs.Outside.{InCore};
-    ghost use Rattle.stm_core.specs.Books.{one_running, Worlds, core_of};
+    ghost use Rattle.stm_segment.specs.Books.{one_running, Worlds, core_of};
     ghost use Rattle.stm_core.specs.inner.Whole.{Whole, SameShape};
     ghost use Rattle.stm_core.specs.CoreHeld.{core_client, core_limits, core_store, Leads, IsGoodCore, SameJob};
     ghost use Rattle.stm_core.specs.Begun.{Begun, IsFresh};

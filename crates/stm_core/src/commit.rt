@@ -1,16 +1,14 @@
 //! How a transaction is committed, in two passes over the others.
-ghost use Rattle.std.specs.Prelude.{◌≡◌, ◌<◌, ◌≤◌, ◌+◌, ◌++◌, [], ◌∷◌, length, slice_get, slice_set};
-ghost use Rattle.stm_core.specs.Books.{runs_at};
+ghost use Rattle.std.specs.Prelude.{◌≡◌, ◌<◌};
 ghost use Rattle.stm_core.specs.Passes.{met};
 ghost use Rattle.stm_core.specs.inner.Readers.{place_of};
 
-use crate::books::{Books, Hand, Progress, Work};
-use crate::segment::wins;
 use crate::transactions::Core;
-use lock_run::{Client, Turn};
+use lock_run::Client;
 use py_data::{Addr, Conflict, Side};
 use seg_store::SegStore;
 use stm_io::{Sink, Source};
+use stm_segment::{Hand, Work, wins};
 
 /// What a commit answers where no conflict was lost.
 #[derive(Clone, Copy, Debug, Drop, PartialEq, Eq)]
@@ -37,70 +35,15 @@ fn first_read<S: SegStore>(store: &S, k: u8, j: u8) -> Option<Addr>
     None
 }
 
-impl<T: Drop> Books<T> {
-    /// Whether a transaction runs on the segment.
-    pub fn runs(&self, j: u8) -> bool
-        requires { j < length self.now.hands.items }
-        ensures { result ≡ runs_at self.now.hands.items j }
-    {
-        matches!(self.hands[j as usize], Hand::Runs(_))
-    }
-
-    /// Commits a transaction: its turn, the state of its thread, and the threads that it started. There is room for
-    /// them.
-    fn add_turn(&mut self, work: Work<T>)
-        requires thread { work.thread < length self.old.threads.entries }
-        requires turns { 0 < self.old.history.room }
-        requires pending { length work.progress.started ≤ self.old.pending }
-        requires threads { self.old.pending ≤ self.old.threads.room }
-        ensures rest { self.new ≡ record self.old {
-          threads = self.new.threads;
-          pending = self.new.pending;
-          history = self.new.history;
-        } }
-        ensures threads { self.new.threads.entries ≡ slice_set self.old.threads.entries work.thread
-            work.state ++ work.progress.started }
-        ensures thread_room { self.old.threads.room ≤ self.new.threads.room + length work.progress.started }
-        ensures pending { self.new.pending + length work.progress.started ≡ self.old.pending }
-        ensures history { self.new.history.entries ≡ self.old.history.entries ++ record {
-          thread = work.thread;
-          steps = work.steps;
-          names = work.progress.names;
-        } ∷ [] }
-        ensures history_room { self.old.history.room ≤ self.new.history.room + 1 }
-    {
-        let Work {
-            thread,
-            steps,
-            state,
-            progress,
-            ..
-        } = work;
-        let Progress { names, started, .. } = progress;
-        self.pending -= started.len();
-        self.threads.set(thread, state);
-        self.threads.append(started);
-        let turn = Turn {
-            thread,
-            steps,
-            names,
-        };
-        match self.history.push(turn) {
-            Ok(()) => (),
-            Err(_) => unreachable!(),
-        }
-    }
-}
-
 impl<'p, C: Client, S: SegStore, I: Source, O: Sink, E: Sink> Core<'p, C, S, I, O, E> {
     ghost use Rattle.std.specs.Prelude.{◌≡◌, ◌≢◌, ℕ, ◌<◌, ◌≤◌, true, false, [], length, slice_get, Some, cond, eqb};
     ghost use Rattle.std.specs.List.{range_with_len};
-    ghost use Rattle.stm_core.specs.declared.books.Work.{Work};
-    ghost use Rattle.stm_core.specs.declared.books.Hand.TheVariants.{Idle, Runs};
+    ghost use Rattle.stm_segment.specs.declared.books.Work.{Work};
+    ghost use Rattle.stm_segment.specs.declared.books.Hand.TheVariants.{Idle, Runs};
     ghost use Rattle.stm_core.specs.Moves.{published};
     ghost use Rattle.stm_core.specs.Passes.{doom_one, doom_readers};
     ghost use Rattle.stm_core.specs.Outside.{InCore};
-    ghost use Rattle.stm_core.specs.Books.{Fit, Worlds, worlds_after, transaction, core_of};
+    ghost use Rattle.stm_segment.specs.Books.{Fit, Worlds, worlds_after, transaction, core_of};
     ghost use Rattle.stm_core.specs.inner.Ending.{HasEnded, MayEnd};
     ghost use Rattle.stm_core.specs.inner.Whole.{Whole, SameShape};
     ghost use Rattle.stm_core.specs.inner.Trying.{core_with};

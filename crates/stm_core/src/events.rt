@@ -4,11 +4,11 @@ ghost use Rattle.stm_core.specs.Events.{begin_reply, advance_reply, solo_reply, 
 
 use crate::answers::{Advance, AdvanceError, LoanError};
 use crate::begin::BeginError;
-use crate::cause::Cause;
 use crate::commit::Commit;
 use crate::solo::SoloError;
 use crate::standing::Slot;
 use py_data::{Conflict, NoMemory};
+use stm_segment::Cause;
 
 /// A call of a core on the segment of the first number.
 #[derive(Clone, Copy, Debug, Drop, PartialEq, Eq)]

@@ -1,11 +1,8 @@
 //! How a core begins, and what it hands out at its end.
 ghost use Rattle.std.specs.Prelude.{◌≡◌, length, IfOk};
-ghost use Rattle.stm_core.specs.Books.{AllIdle, IsFirst};
+ghost use Rattle.stm_segment.specs.Books.{AllIdle, IsFirst};
 
-use crate::books::{Books, Hand};
-use crate::devices::Devices;
 use crate::standing::RunState;
-use crate::threads::Threads;
 use crate::transactions::{BUDGET_LIMIT, Core, LENGTH_LIMIT};
 use lock_run::{Client, History, Life};
 use py_data::{Conflicts, Log, NoMemory};
@@ -13,6 +10,7 @@ use seg_store::SegStore;
 use std::alloc::Global;
 use std::snapshot::Snapshot;
 use stm_io::{Sink, Source};
+use stm_segment::{Books, Devices, Hand, Threads};
 
 /// What a core hands out at its end.
 #[derive(Drop)]
@@ -67,11 +65,11 @@ impl<'p, C: Client, S: SegStore, I: Source, O: Sink, E: Sink> Core<'p, C, S, I, 
     ghost use Rattle.std.specs.Prelude.{◌≡◌, ◌≢◌, ℕ, ◌<◌, ◌≤◌, true, false, length, IfOk, IfErr};
     ghost use Rattle.lock_run.specs.Client.{IsSoundFirst};
     ghost use Rattle.seg_store.specs.Store.{IsEmpty};
-    ghost use Rattle.stm_core.specs.CoreState.{Idle, core_new, with_segment};
+    ghost use Rattle.stm_segment.specs.CoreState.{Idle, core_new, with_segment};
     ghost use Rattle.lock_run.specs.RunState.{first_world};
     ghost use Rattle.stm_core.specs.Outside.{Outer, outer_new};
-    ghost use Rattle.stm_core.specs.Devices.{device_state};
-    ghost use Rattle.stm_core.specs.Books.{Worlds, NoneSolo, core_of};
+    ghost use Rattle.stm_segment.specs.Devices.{device_state};
+    ghost use Rattle.stm_segment.specs.Books.{Worlds, NoneSolo, core_of};
     ghost use Rattle.stm_core.specs.inner.Whole.{Whole, SameShape};
     ghost use Rattle.stm_core.specs.Standing.{IsOutcome};
     ghost use Rattle.stm_core.specs.Finishing.{idle_core, IsUnused, HasFailed, SettlesSolo, HandedOut};

@@ -5,8 +5,6 @@ ghost use Rattle.seg_store.specs.Meaning.{sees, holds};
 ghost use Rattle.stm_pieces.specs.PieceOf.{piece_state};
 ghost use Rattle.stm_core.specs.inner.Lent.{IsLentAt, AreLent};
 
-use crate::books::{Hand, Work};
-use crate::sights::{byte_count, is_held, is_there, is_tracked_kind, value_count};
 use crate::transactions::Core;
 use lock_run::Client;
 use py_base::split;
@@ -14,6 +12,7 @@ use py_data::{Addr, Entry, Kind, Value};
 use seg_store::SegStore;
 use stm_io::{Sink, Source};
 use stm_pieces::{Piece, PieceView};
+use stm_segment::{Hand, Work, byte_count, is_held, is_there, is_tracked_kind, value_count};
 
 /// How many bytes are compared at a time.
 const PART: usize = 64;

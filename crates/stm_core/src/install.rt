@@ -2,8 +2,6 @@
 ghost use Rattle.std.specs.Prelude.{◌≡◌, ◌<◌, ◌+◌, ◌^◌};
 ghost use Rattle.stm_core.specs.inner.PutIn.{further};
 
-use crate::books::{Hand, Work};
-use crate::cause::Cause;
 use crate::replay::replay;
 use crate::transactions::Core;
 use lock_run::Client;
@@ -11,17 +9,16 @@ use py_data::{Addr, Change, NoMemory};
 use seg_store::SegStore;
 use stm_io::{Sink, Source};
 use stm_pieces::Piece;
+use stm_segment::{Cause, Hand, Work};
 
-impl<T: Drop> Work<T> {
-    /// So many steps more were done, which led to this state, if it is told.
-    fn count_steps(&mut self, steps: u64, last: Option<T>)
-        requires { self.old.steps + steps < 2 ^ 64 }
-        ensures { self.new ≡ further steps last self.old }
-    {
-        self.steps += steps;
-        if let Some(state) = last {
-            self.state = state;
-        }
+/// A transaction has done so many steps more, which led to this state, if it is told.
+fn count_steps<T: Drop>(work: &mut Work<T>, steps: u64, last: Option<T>)
+    requires { work.old.steps + steps < 2 ^ 64 }
+    ensures { work.new ≡ further steps last work.old }
+{
+    work.steps += steps;
+    if let Some(state) = last {
+        work.state = state;
     }
 }
 
@@ -31,9 +28,9 @@ impl<'p, C: Client, S: SegStore, I: Source, O: Sink, E: Sink> Core<'p, C, S, I, 
     ghost use Rattle.stm_pieces.specs.Ends.{last_of};
     ghost use Rattle.stm_pieces.specs.PieceBy.{IsPieceBy};
     ghost use Rattle.stm_pieces.specs.PieceOf.{piece_state};
-    ghost use Rattle.stm_core.specs.CoreState.{IsShort};
+    ghost use Rattle.stm_segment.specs.CoreState.{IsShort};
     ghost use Rattle.stm_core.specs.Begun.{CountsSteps};
-    ghost use Rattle.stm_core.specs.Books.{Fit};
+    ghost use Rattle.stm_segment.specs.Books.{Fit};
     ghost use Rattle.stm_core.specs.CoreHeld.{core_client, core_limits, core_store, Says, Leads, IsGoodCore, SameJob};
     ghost use Rattle.stm_core.specs.Pieces.{FitsSegment, IsInstalled};
     ghost use Rattle.stm_core.specs.inner.PutIn.{HasPutIn, HasFailed};
@@ -80,7 +77,7 @@ impl<'p, C: Client, S: SegStore, I: Source, O: Sink, E: Sink> Core<'p, C, S, I, 
         going.progress.open();
         match replay(&mut self.store, k, edits) {
             Ok(()) => {
-                going.count_steps(steps, last);
+                count_steps(&mut going, steps, last);
                 self.put_back(k, going);
                 Ok(steps)
             }

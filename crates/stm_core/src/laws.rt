@@ -7,7 +7,7 @@ ghost use Rattle.py_data.specs.Sight.{mem};
 ghost use Rattle.lock_run.specs.Prog.{Prog};
 ghost use Rattle.lock_run.specs.Machine.{Machine};
 ghost use Rattle.seg_store.specs.Meaning.{overlay};
-ghost use Rattle.stm_core.specs.CoreState.{Transaction, CoreState, Running, committed, world_after, threads_after, core_new};
+ghost use Rattle.stm_segment.specs.CoreState.{Transaction, CoreState, Running, committed, world_after, threads_after, core_new};
 ghost use Rattle.stm_core.specs.Good.{Stands, Apart, Good};
 ghost use Rattle.stm_core.specs.Moves.{Advances, Move, Follows};
 ghost use Rattle.stm_core.specs.Outside.{Outer, Kept, OuterLed};

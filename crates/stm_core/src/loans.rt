@@ -6,9 +6,6 @@ ghost use Rattle.stm_pieces.specs.PieceOf.{piece_state};
 ghost use Rattle.stm_core.specs.inner.Lent.{AreLent, MayLend, Lends};
 
 use crate::answers::LoanError;
-use crate::books::{Hand, Work};
-use crate::recent::{RECENT_LIMIT, Recent};
-use crate::sights::{copy_of, is_held, is_there, is_tracked_kind, value_count};
 use crate::transactions::Core;
 use lock_run::{Client, Life};
 use py_data::{Addr, Kind, NoMemory, Value};
@@ -16,6 +13,9 @@ use seg_store::SegStore;
 use std::alloc::Global;
 use stm_io::{Sink, Source};
 use stm_pieces::Loan;
+use stm_segment::{
+    Hand, RECENT_LIMIT, Recent, Work, copy_of, is_held, is_there, is_tracked_kind, value_count,
+};
 
 /// The most pairs of a dictionary whose keys are loaned too.
 const KEYED_LIMIT: usize = 32;
@@ -153,9 +153,9 @@ impl<'p, C: Client, S: SegStore, I: Source, O: Sink, E: Sink> Core<'p, C, S, I, 
     ghost use Rattle.lock_run.specs.declared.client.Life.TheVariants.{Lives};
     ghost use Rattle.lock_run.specs.Client.{StandsIn};
     ghost use Rattle.stm_pieces.specs.PieceOf.{piece_state};
-    ghost use Rattle.stm_core.specs.declared.books.Work.{Work};
-    ghost use Rattle.stm_core.specs.declared.books.Hand.TheVariants.{Runs};
-    ghost use Rattle.stm_core.specs.Books.{runs_at};
+    ghost use Rattle.stm_segment.specs.declared.books.Work.{Work};
+    ghost use Rattle.stm_segment.specs.declared.books.Hand.TheVariants.{Runs};
+    ghost use Rattle.stm_segment.specs.Books.{runs_at};
     ghost use Rattle.stm_core.specs.CoreHeld.{core_client, core_limits, core_store, Says, Leads, IsGoodCore, SameJob};
     ghost use Rattle.stm_core.specs.Pieces.{MayLoan, IsLoaned};
     ghost use Rattle.stm_core.specs.inner.Lent.{IsLoanOf, IsLoanFrom};

@@ -1,11 +1,10 @@
 //! How a transaction becomes solo: from then on it prints and reads, and can't be aborted.
-use crate::books::{Hand, Work};
-use crate::cause::Cause;
 use crate::transactions::Core;
 use lock_run::Client;
 use py_data::Conflict;
 use seg_store::SegStore;
 use stm_io::{Sink, Source};
+use stm_segment::{Cause, Hand, Work};
 use thiserror::Error;
 
 /// Why a transaction doesn't become solo. The first of these that holds is told.
@@ -25,7 +24,7 @@ pub enum SoloError {
 impl<'p, C: Client, S: SegStore, I: Source, O: Sink, E: Sink> Core<'p, C, S, I, O, E> {
     ghost use Rattle.std.specs.Prelude.{◌≡◌, ◌≤◌, ℕ, true, length, slice_get, slice_set, Some, OnOk, OnErr, IfErr};
     ghost use Rattle.stm_core.specs.Solo.{Soloed};
-    ghost use Rattle.stm_core.specs.Books.{Fit, NoneSolo, IsSoloAt};
+    ghost use Rattle.stm_segment.specs.Books.{Fit, NoneSolo, IsSoloAt};
     ghost use Rattle.stm_core.specs.inner.Whole.{Whole};
     ghost use Rattle.stm_core.specs.Events.{may_make};
     ghost use Rattle.stm_core.specs.declared.events.Event.{Event};

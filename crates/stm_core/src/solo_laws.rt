@@ -8,15 +8,15 @@ ghost use Rattle.lock_run.specs.Machine.{Machine};
 ghost use Rattle.lock_run.specs.Prog.{Prog};
 ghost use Rattle.stm_core.specs.Advance.{Gone, Tried};
 ghost use Rattle.stm_core.specs.Advanced.{Led};
-ghost use Rattle.stm_core.specs.Conflict.{IsStanding, loser, side};
-ghost use Rattle.stm_core.specs.CoreState.{CoreState, Running, Transaction, committed, core_new};
+ghost use Rattle.stm_segment.specs.Conflict.{IsStanding, loser, side};
+ghost use Rattle.stm_segment.specs.CoreState.{CoreState, Running, Transaction, committed, core_new};
 ghost use Rattle.stm_core.specs.Good.{Good};
-ghost use Rattle.stm_core.specs.inner.Hold.{LosesTo};
+ghost use Rattle.stm_segment.specs.inner.Hold.{LosesTo};
 ghost use Rattle.stm_core.specs.Moves.{Follows, Move};
 ghost use Rattle.stm_core.specs.Outside.{Inner, Kept, Outer, OuterFollows, OuterLed, OuterMove, outer_new, told_through};
 ghost use Rattle.stm_core.specs.Passes.{NoneWins, after_commit};
 ghost use Rattle.stm_core.specs.Solo.{SoloFailed, Soloed};
-ghost use Rattle.stm_core.specs.declared.cause.Cause.{Cause};
+ghost use Rattle.stm_segment.specs.declared.cause.Cause.{Cause};
 ghost use Rattle.stm_core.specs.declared.solo.SoloError.{SoloError};
 
 /// A core is good, each of its conflicts stood, and its devices were told what its transactions did: so it is when it

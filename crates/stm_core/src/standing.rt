@@ -1,16 +1,9 @@
 //! How a core stands: what its segments have in hand, which thread is next, and how the run stands.
-ghost use Rattle.std.specs.Prelude.{◌≡◌, ◌≢◌, ℕ, ◌<◌, ◌≤◌, true, false, length, slice_get, Some};
-ghost use Rattle.std.specs.List.{sum_by};
-ghost use Rattle.stm_core.specs.declared.books.Work.{Work};
-ghost use Rattle.stm_core.specs.declared.books.Hand.TheVariants.{Idle, Runs};
-ghost use Rattle.stm_core.specs.Books.{one_running, IsSoloAt};
-
-use crate::books::{Books, Hand};
-use crate::cause::Cause;
 use crate::transactions::Core;
 use lock_run::{Client, Life};
 use seg_store::SegStore;
 use stm_io::{Sink, Source};
+use stm_segment::{Cause, Hand};
 
 /// What a segment has in hand.
 #[derive(Clone, Copy, Debug, Drop, PartialEq, Eq)]
@@ -45,69 +38,12 @@ pub enum RunState {
     Faulted(Cause),
 }
 
-impl<T: Drop> Books<T> {
-    /// Whether a segment has nothing in hand.
-    pub fn is_idle(&self, k: u8) -> bool
-        requires { k < length self.now.hands.items }
-        ensures yes { result ≡ true → slice_get self.now.hands.items k ≡ Some Hand.Idle }
-        ensures not { result ≡ false → slice_get self.now.hands.items k ≢ Some Hand.Idle }
-    {
-        matches!(self.hands[k as usize], Hand::Idle)
-    }
-
-    /// How many transactions run.
-    pub fn running(&self) -> usize
-        ensures count { result ≡ sum_by one_running self.now.hands.items }
-        ensures few { result ≤ length self.now.hands.items }
-    {
-        let mut count = 0;
-        for hand in &self.hands {
-            if let Hand::Runs(_) = hand {
-                count += 1;
-            }
-        }
-        count
-    }
-
-    /// The segment whose transaction is solo.
-    pub fn solo_segment(&self) -> Option<u8>
-        requires { length self.now.hands.items ≤ 8 }
-        ensures { IsSoloAt self.now.hands.items result }
-    {
-        for j in 0..self.hands.len() {
-            if let Hand::Runs(work) = &self.hands[j] {
-                if work.solo {
-                    return Some(j as u8);
-                }
-            }
-        }
-        None
-    }
-
-    /// Whether a segment runs the thread.
-    pub fn runs_thread(&self, t: u32) -> bool
-        ensures yes { result ≡ true → (j : ℕ) × (y : Work T) × (slice_get self.now.hands.items j ≡ Some (Hand.Runs y))
-            × (y.thread ≡ t) }
-        ensures not { result ≡ false → (j : ℕ) (y : Work T) → slice_get self.now.hands.items j ≡ Some (Hand.Runs y)
-            → t ≢ y.thread }
-    {
-        for hand in &self.hands {
-            if let Hand::Runs(work) = hand {
-                if work.thread == t {
-                    return true;
-                }
-            }
-        }
-        false
-    }
-}
-
 impl<'p, C: Client, S: SegStore, I: Source, O: Sink, E: Sink> Core<'p, C, S, I, O, E> {
     ghost use Rattle.std.specs.Prelude.{◌≡◌, ℕ, ◌<◌, ◌≤◌, true, false};
-    ghost use Rattle.stm_core.specs.Books.{Worlds, core_of};
+    ghost use Rattle.stm_segment.specs.Books.{Worlds, core_of};
     ghost use Rattle.stm_core.specs.CoreHeld.{core_client, core_limits, Says, IsGoodCore};
     ghost use Rattle.lock_run.specs.RunState.{steps_done, SomeLives, IsDone};
-    ghost use Rattle.stm_core.specs.CoreState.{committed};
+    ghost use Rattle.stm_segment.specs.CoreState.{committed};
     ghost use Rattle.stm_core.specs.Begun.{IsReady, IsUnready, CountsSteps};
     ghost use Rattle.stm_core.specs.Standing.{slot_of, FirstReady, IsNext, IsOutcome};
 

@@ -2,15 +2,12 @@
 ghost use Rattle.std.specs.Prelude.{◌≡◌, ◌<◌, IfOk};
 
 use crate::answers::AdvanceError;
-use crate::books::{Cut, Hand, Work};
-use crate::cause::Cause;
-use crate::halt::Halt;
-use crate::segment::SegView;
 use crate::transactions::Core;
 use lock_run::{Client, Outcome};
 use py_data::{Conflict, Stop};
 use seg_store::SegStore;
 use stm_io::{Sink, Source};
+use stm_segment::{Cause, Cut, Halt, Hand, SegView, Work};
 
 /// Why steps of a transaction come to an end.
 #[derive(Clone, Copy, Debug, Drop)]
@@ -44,22 +41,22 @@ impl<'p, C: Client, S: SegStore, I: Source, O: Sink, E: Sink> Core<'p, C, S, I, 
     ghost use Rattle.lock_run.specs.Client.{Standing, LifeAfter};
     ghost use Rattle.lock_run.specs.declared.client.Life.TheVariants.{Lives};
     ghost use Rattle.seg_store.specs.Meaning.{sees};
-    ghost use Rattle.stm_core.specs.CoreState.{IsShort, with_conflict, with_segment, Running};
-    ghost use Rattle.stm_core.specs.Conflict.{side};
-    ghost use Rattle.stm_core.specs.Books.{Fit, Worlds, with_own, transaction, core_of};
-    ghost use Rattle.stm_core.specs.Devices.{device_state, ShowsWorld, Shown, IsLeftAlone, CountsGrow, StopRose};
+    ghost use Rattle.stm_segment.specs.CoreState.{IsShort, with_conflict, with_segment, Running};
+    ghost use Rattle.stm_segment.specs.Conflict.{side};
+    ghost use Rattle.stm_segment.specs.Books.{Fit, Worlds, with_own, transaction, core_of};
+    ghost use Rattle.stm_segment.specs.Devices.{device_state, ShowsWorld, Shown, IsLeftAlone, CountsGrow, StopRose};
     ghost use Rattle.stm_core.specs.inner.Whole.{Whole, SameShape, StepDone, StepCut, StepBroke};
     ghost use Rattle.stm_core.specs.inner.Ending.{HasEnded, MayEnd, StepsLeave};
     ghost use Rattle.stm_core.specs.Advanced.{with_cause};
-    ghost use Rattle.stm_core.specs.Moves.{first_cause};
+    ghost use Rattle.stm_segment.specs.CoreState.{first_cause};
     ghost use Rattle.stm_core.specs.Solo.{up_to_whole};
     ghost use Rattle.stm_core.specs.Begun.{CountsSteps};
     ghost use Rattle.seg_store.specs.Calls.{after_drop};
     ghost use Rattle.seg_store.specs.Store.{IsStore};
-    ghost use Rattle.stm_core.specs.CoreState.{CoreState};
+    ghost use Rattle.stm_segment.specs.CoreState.{CoreState};
     ghost use Rattle.stm_core.specs.Advance.{Tried};
     ghost use Rattle.stm_core.specs.inner.Trying.{SaneShown, core_with};
-    ghost use Rattle.stm_core.specs.InUse.{IfTold};
+    ghost use Rattle.stm_segment.specs.InUse.{IfTold};
     ghost use Rattle.stm_core.specs.inner.Rising.{RisesInStep, RisesOut};
     ghost use Rattle.stm_core.specs.inner.Pauses.{pause_of, done_by, PauseCount};
     ghost use Rattle.stm_core.specs.inner.Pausing.{DevicesGrow, Paused, SaneAfter};

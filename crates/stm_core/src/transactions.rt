@@ -1,6 +1,4 @@
 //! The transactional core, as its callers have it.
-use crate::books::Books;
-use crate::devices::Devices;
 use crate::events::{
     Event, Reply, advance_reply, begin_reply, commit_reply, is_busy, loan_reply, may_go_on,
     piece_reply, solo_reply, split,
@@ -12,6 +10,7 @@ use std::alloc::Global;
 use std::snapshot::Snapshot;
 use stm_io::{Sink, Source};
 use stm_pieces::run_piece;
+use stm_segment::{Books, Devices};
 
 /// The greatest length.
 pub const LENGTH_LIMIT: u64 = 1_000_000;

@@ -9,11 +9,11 @@ use Rattle.lock_run.specs.Prog.{Prog}
 use Rattle.lock_run.specs.RunState.{first_world}
 use Rattle.seg_store.specs.Meaning.{Meaning}
 use Rattle.seg_store.specs.Telling.{IsTelling}
-use Rattle.stm_core.specs.declared.cause.Cause.TheVariants.{Full}
+use Rattle.stm_segment.specs.declared.cause.Cause.TheVariants.{Full}
 use Rattle.stm_core.specs.declared.standing.RunState.{RunState}
 use Rattle.stm_core.specs.CoreHeld.{IsFullKept}
-use Rattle.stm_core.specs.CoreState.{CoreState, committed, core_new}
-use Rattle.stm_core.specs.Devices.{DeviceState}
+use Rattle.stm_segment.specs.CoreState.{CoreState, committed, core_new}
+use Rattle.stm_segment.specs.Devices.{DeviceState}
 use Rattle.stm_core.specs.Events.{Limits}
 use Rattle.stm_core.specs.Finishing.{HandedOut, SettlesSolo, idle_core}
 use Rattle.stm_core.specs.Good.{Good}

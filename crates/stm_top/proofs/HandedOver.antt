@@ -8,13 +8,13 @@ use Rattle.lock_run.specs.Cut.{Broken}
 use Rattle.lock_run.specs.Machine.{Machine, begin_with}
 use Rattle.lock_run.specs.RunState.{SomeLives, SomeReady}
 use Rattle.seg_store.specs.Meaning.{Meaning}
-use Rattle.stm_core.specs.declared.cause.Cause.{Cause}
-use Rattle.stm_core.specs.declared.cause.Cause.TheVariants as cause
+use Rattle.stm_segment.specs.declared.cause.Cause.{Cause}
+use Rattle.stm_segment.specs.declared.cause.Cause.TheVariants as cause
 use Rattle.stm_core.specs.declared.standing.RunState.{RunState}
 use Rattle.stm_core.specs.declared.standing.RunState.TheVariants as state
-use Rattle.stm_core.specs.CoreState.{Transaction, Idle, Running, committed}
+use Rattle.stm_segment.specs.CoreState.{Transaction, Idle, Running, committed}
 use Rattle.stm_core.specs.CoreHeld.{IsFullKept}
-use Rattle.stm_core.specs.Devices.{DeviceState}
+use Rattle.stm_segment.specs.Devices.{DeviceState}
 use Rattle.stm_core.specs.Events.{Limits}
 use Rattle.stm_core.specs.Finishing.{IsUnused, HandedOut}
 use Rattle.stm_core.specs.Outside.{Outer, Kept, is_device}

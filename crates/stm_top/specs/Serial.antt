@@ -10,8 +10,8 @@ use Rattle.lock_run.specs.RunState.{first_world}
 use Rattle.lock_run.specs.Prog.{Prog}
 use Rattle.lock_run.specs.Machine.{Machine, Runs, begin_with}
 use Rattle.lock_run.specs.Cut.{Broken, Broke}
-use Rattle.stm_core.specs.declared.cause.Cause.{Cause}
-use Rattle.stm_core.specs.Conflict.{loser}
+use Rattle.stm_segment.specs.declared.cause.Cause.{Cause}
+use Rattle.stm_segment.specs.Conflict.{loser}
 use Rattle.stm_core.specs.Outside.{FaultOf}
 use Rattle.stm_core.specs.Stood.{Stood}
 

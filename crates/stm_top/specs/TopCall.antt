@@ -11,7 +11,7 @@ use Rattle.lock_run.specs.Prog.{Prog}
 use Rattle.lock_run.specs.Machine.{begin_with}
 use Rattle.lock_run.specs.RunState.{first_world, steps_done, SomeLives, IsDone, IsStuck, IsSpent}
 use Rattle.seg_store.specs.Meaning.{Meaning}
-use Rattle.stm_core.specs.declared.cause.Cause.TheVariants.{ReadFault, WriteFault, ErrFault}
+use Rattle.stm_segment.specs.declared.cause.Cause.TheVariants.{ReadFault, WriteFault, ErrFault}
 use Rattle.stm_core.specs.Events.{Limits}
 use Rattle.stm_core.specs.Finishing.{IsUnused}
 use Rattle.heap_bound.specs.Growth.{IsNearlyFull}

@@ -5,13 +5,13 @@ use Rattle.lock_run.specs.Machine.{Machine, begin_with}
 use Rattle.lock_run.specs.Prog.{Prog}
 use Rattle.lock_run.specs.RunState.{first_world}
 use Rattle.seg_store.specs.Meaning.{Meaning}
-use Rattle.stm_core.specs.declared.devices.Devices.{Devices}
+use Rattle.stm_segment.specs.declared.devices.Devices.{Devices}
 use Rattle.stm_core.specs.declared.transactions.Core.{Core}
 use Rattle.stm_core.specs.CoreHeld.{core_client, core_limits, core_store, first_devices, CoreStands, SameJob}
-use Rattle.stm_core.specs.CoreState.{CoreState}
+use Rattle.stm_segment.specs.CoreState.{CoreState}
 use Rattle.stm_core.specs.Events.{Limits}
 use Rattle.stm_core.specs.Good.{Good}
-use Rattle.stm_core.specs.InUse.{IfTold}
+use Rattle.stm_segment.specs.InUse.{IfTold}
 use Rattle.stm_core.specs.Outside.{Outer}
 use Rattle.heap_bound.specs.Moments.{IsExplained, AreExplained}
 use Rattle.stm_workers.specs.Growth.{HasExplained}

@@ -20,11 +20,12 @@ use Rattle.py_data.specs.declared.stop.Conflict.{Conflict}
 use Rattle.stm_core.specs.Advanced.{Advanced}
 use Rattle.stm_core.specs.Begun.{Begun}
 use Rattle.stm_core.specs.Committed.{Committed}
-use Rattle.stm_core.specs.CoreState.{CoreState}
+use Rattle.stm_segment.specs.CoreState.{CoreState}
 use Rattle.stm_core.specs.CoreHeld.{core_client, core_limits, core_store, CoreStands, Leads, SameJob, Says}
 use Rattle.stm_core.specs.Events.{Limits, begin_reply, advance_reply, solo_reply, commit_reply, is_busy, may_make, Made, MadeIf, EventsMade}
 use Rattle.stm_core.specs.History.{AllLeave, IsGrown}
-use Rattle.stm_core.specs.InUse.{IfTold, RisesWithin}
+use Rattle.stm_segment.specs.InUse.{IfTold}
+use Rattle.stm_core.specs.PeakRises.{RisesWithin}
 use Rattle.stm_core.specs.Outside.{Outer, InCore}
 use Rattle.stm_core.specs.Solo.{Soloed}
 use Rattle.stm_core.specs.Standing.{slot_of}

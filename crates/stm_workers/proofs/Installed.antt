@@ -8,14 +8,14 @@ use Rattle.stm_io.specs.Outside.{SourceState, SinkState}
 use Rattle.lock_run.specs.Prog.{Prog}
 use Rattle.py_data.specs.Heap.{Heap}
 use Rattle.seg_store.specs.Meaning.{Meaning}
-use Rattle.stm_core.specs.declared.cause.Cause.TheVariants.{OutOfMemory}
+use Rattle.stm_segment.specs.declared.cause.Cause.TheVariants.{OutOfMemory}
 use Rattle.stm_core.specs.declared.transactions.Core.{Core}
 use Rattle.stm_core.specs.declared.answers.LoanError.{LoanError}
 use Rattle.stm_core.specs.declared.answers.LoanError.TheVariants as error
 use Rattle.stm_core.specs.Advanced.{with_cause, Fails}
-use Rattle.stm_core.specs.Conflict.{conflict}
+use Rattle.stm_segment.specs.Conflict.{conflict}
 use Rattle.stm_core.specs.CoreHeld.{core_client, core_limits, core_store, CoreStands, Leads, SameJob}
-use Rattle.stm_core.specs.CoreState.{Transaction, Segment, Idle, Doomed, Running, CoreState, turn_of, with_segment}
+use Rattle.stm_segment.specs.CoreState.{Transaction, Segment, Idle, Doomed, Running, CoreState, turn_of, with_segment}
 use Rattle.stm_core.specs.Moves.{published}
 use Rattle.stm_core.specs.Outside.{Outer}
 use Rattle.stm_core.specs.Passes.{met, doom_met, doom_one, doom_readers, after_commit}

@@ -7,12 +7,12 @@ use denote.Enum.Declared as enum
 use denote.Param.Send.{IsSend, IsSync, sendable, recorded_send, struct_send, enum_send}
 use Rattle.std.proofs.Crossing.{crosses}
 use Rattle.py_data.specs.contracts.stop.Conflict as conflict
-use Rattle.stm_core.specs.contracts.books.Books as books
-use Rattle.stm_core.specs.contracts.books.Hand as hand
-use Rattle.stm_core.specs.contracts.books.Work as work
-use Rattle.stm_core.specs.contracts.books.Progress as progress
-use Rattle.stm_core.specs.contracts.recent.Recent as recent
-use Rattle.stm_core.specs.contracts.devices.Devices as devices
+use Rattle.stm_segment.specs.contracts.books.Books as books
+use Rattle.stm_segment.specs.contracts.books.Hand as hand
+use Rattle.stm_segment.specs.contracts.books.Work as work
+use Rattle.stm_segment.specs.contracts.books.Progress as progress
+use Rattle.stm_segment.specs.contracts.recent.Recent as recent
+use Rattle.stm_segment.specs.contracts.devices.Devices as devices
 use Rattle.stm_core.specs.contracts.transactions.Core as core
 use Rattle.stm_workers.specs.contracts.held.Held as held
 

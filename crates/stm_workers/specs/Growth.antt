@@ -9,7 +9,7 @@ use Rattle.lock_run.specs.Prog.{Prog}
 use Rattle.lock_run.specs.RunState.{first_world}
 use Rattle.seg_store.specs.Meaning.{Meaning}
 use Rattle.stm_core.specs.declared.transactions.Core.{Core}
-use Rattle.stm_core.specs.CoreState.{CoreState}
+use Rattle.stm_segment.specs.CoreState.{CoreState}
 use Rattle.stm_core.specs.CoreHeld.{core_client, core_limits, core_store, first_devices, Leads}
 use Rattle.stm_core.specs.Outside.{Outer}
 use Rattle.heap_bound.specs.Moments.{AreExplained}

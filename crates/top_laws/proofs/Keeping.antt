@@ -10,7 +10,7 @@ use Rattle.lock_run.specs.RunState.{SomeLives}
 use Rattle.lock_run.specs.Cut.{Broken, Broke}
 use Rattle.lock_run.proofs.Stepping.{get_front}
 use Rattle.lock_run.proofs.Along.{runs_split, runs_along}
-use Rattle.stm_core.specs.declared.cause.Cause.{Cause}
+use Rattle.stm_segment.specs.declared.cause.Cause.{Cause}
 use Rattle.stm_top.specs.Serial.{Ended, Whole, Cut, IsCutBy}
 
 -- what stands in another place stays

@@ -8,7 +8,7 @@ use Rattle.lock_run.specs.declared.turn.Turn.{Turn}
 use Rattle.lock_run.specs.Prog.{Prog}
 use Rattle.lock_run.specs.Machine.{begin_with}
 use Rattle.lock_run.specs.RunState.{first_world, SomeLives, IsDone, IsStuck, IsSpent}
-use Rattle.stm_core.specs.declared.cause.Cause.TheVariants.{ReadFault, WriteFault, ErrFault}
+use Rattle.stm_segment.specs.declared.cause.Cause.TheVariants.{ReadFault, WriteFault, ErrFault}
 use Rattle.stm_core.specs.Events.{Limits}
 use Rattle.heap_bound.specs.Growth.{IsNearlyFull}
 use Rattle.stm_words.specs.declared.call.Options.{Options}

@@ -10,7 +10,7 @@ use Rattle.lock_run.specs.declared.turn.Turn.{Turn}
 use Rattle.lock_run.specs.Prog.{Prog}
 use Rattle.lock_run.specs.RunState.{steps_done, first_world, SomeLives, SomeReady, IsDone, IsStuck, AllWait}
 use Rattle.lock_run.specs.Machine.{Machine, begin_with}
-use Rattle.stm_core.specs.declared.cause.Cause.TheVariants.{ReadFault, WriteFault, ErrFault}
+use Rattle.stm_segment.specs.declared.cause.Cause.TheVariants.{ReadFault, WriteFault, ErrFault}
 use Rattle.stm_core.specs.Events.{Limits}
 use Rattle.heap_bound.specs.Growth.{IsNearlyFull}
 use Rattle.stm_top.specs.declared.status.Status.{Status}

@@ -10,7 +10,7 @@ use Rattle.lock_run.specs.declared.turn.Turn.{Turn}
 use Rattle.lock_run.specs.Prog.{Prog}
 use Rattle.seg_store.specs.Meaning.{Meaning}
 use Rattle.stm_core.specs.declared.transactions.Core.{Core}
-use Rattle.stm_core.specs.CoreState.{CoreState}
+use Rattle.stm_segment.specs.CoreState.{CoreState}
 use Rattle.stm_core.specs.CoreHeld.{Says, IsGoodCore}
 use Rattle.stm_workers.specs.Growth.{Grows}
 use Rattle.worker_tests.specs.Turns.{turns_of}

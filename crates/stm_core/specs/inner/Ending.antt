@@ -4,11 +4,11 @@
 -- States `docs/HEAP.md`, "The transactional core".
 use Rattle.std.specs.Prelude.{◌≡◌, ℕ, ◌<◌, Option, Some, length, slice_get}
 use Rattle.seg_store.specs.Meaning.{Meaning}
-use Rattle.stm_core.specs.declared.books.Hand.TheVariants.{Idle}
-use Rattle.stm_core.specs.declared.books.Work.{Work}
+use Rattle.stm_segment.specs.declared.books.Hand.TheVariants.{Idle}
+use Rattle.stm_segment.specs.declared.books.Work.{Work}
 use Rattle.stm_core.specs.declared.transactions.Core.{Core}
 use Rattle.stm_core.specs.Begun.{CountsSteps}
-use Rattle.stm_core.specs.Books.{Fit}
+use Rattle.stm_segment.specs.Books.{Fit}
 use Rattle.stm_core.specs.inner.Whole.{Whole, SameShape}
 
 -- steps change store, books and devices alone

@@ -9,14 +9,14 @@ use Rattle.seg_store.specs.Meaning.{Meaning}
 use Rattle.seg_store.specs.Store.{IsStore}
 use Rattle.stm_core.specs.declared.answers.Advance.{Advance}
 use Rattle.stm_core.specs.declared.answers.AdvanceError.{AdvanceError}
-use Rattle.stm_core.specs.declared.books.Hand.TheVariants.{Idle}
-use Rattle.stm_core.specs.declared.books.Work.{Work}
+use Rattle.stm_segment.specs.declared.books.Hand.TheVariants.{Idle}
+use Rattle.stm_segment.specs.declared.books.Work.{Work}
 use Rattle.stm_core.specs.declared.transactions.Core.{Core}
 use Rattle.stm_core.specs.Begun.{CountsSteps}
-use Rattle.stm_core.specs.Books.{Fit, Worlds}
+use Rattle.stm_segment.specs.Books.{Fit, Worlds}
 use Rattle.stm_core.specs.Counted.{FaultRose}
-use Rattle.stm_core.specs.Devices.{Shown, device_state}
-use Rattle.stm_core.specs.InUse.{IfTold}
+use Rattle.stm_segment.specs.Devices.{Shown, device_state}
+use Rattle.stm_segment.specs.InUse.{IfTold}
 use Rattle.stm_core.specs.inner.Rising.{RisesOut}
 use Rattle.stm_core.specs.inner.Settled.{Rises}
 use Rattle.stm_core.specs.inner.Trying.{SaneShown, core_with}

@@ -6,9 +6,9 @@ use Rattle.py_data.specs.Sense.{IsPart}
 use Rattle.seg_store.specs.Meaning.{Meaning, sees, holds}
 use Rattle.stm_pieces.specs.declared.loan.Loan.{Loan}
 use Rattle.stm_pieces.specs.PieceOf.{piece_state}
-use Rattle.stm_core.specs.declared.books.Work.{Work}
-use Rattle.stm_core.specs.declared.books.Hand.{Hand}
-use Rattle.stm_core.specs.declared.books.Hand.TheVariants.{Runs}
+use Rattle.stm_segment.specs.declared.books.Work.{Work}
+use Rattle.stm_segment.specs.declared.books.Hand.{Hand}
+use Rattle.stm_segment.specs.declared.books.Hand.TheVariants.{Runs}
 
 -- Records of what segment k sees: each tracked one was looked at, and those that are said to be locked are held.
 pub record AreLent (m : Meaning) (k : ℕ) (g : Heap) (locked : Marks) : Type 0 where

@@ -1,7 +1,7 @@
 -- What code and proofs say to each other: nothing public rests on it.
 -- How a step went as an end of steps, and how many steps an end of steps counts. States `docs/HEAP.md`, "Events".
 use Rattle.std.specs.Prelude.{◌≡◌, ℕ, ◌<◌, ◌≤◌}
-use Rattle.stm_core.specs.declared.halt.Halt.{Halt}
+use Rattle.stm_segment.specs.declared.halt.Halt.{Halt}
 use Rattle.stm_core.specs.declared.steps.Pause.{Pause}
 use Rattle.stm_core.specs.declared.steps.Pause.TheVariants.{Whole, Waits, Ended, Stopped}
 use Rattle.stm_core.specs.declared.steps.Went.{Went}

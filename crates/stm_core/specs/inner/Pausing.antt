@@ -6,17 +6,17 @@ use Rattle.py_data.specs.World.{World}
 use Rattle.lock_run.specs.declared.client.Life.TheVariants.{Lives}
 use Rattle.lock_run.specs.Prog.{Prog}
 use Rattle.seg_store.specs.Meaning.{Meaning}
-use Rattle.stm_core.specs.declared.books.Work.{Work}
-use Rattle.stm_core.specs.declared.books.Books.{Books}
-use Rattle.stm_core.specs.declared.halt.Halt.{Halt}
-use Rattle.stm_core.specs.declared.halt.Halt.TheVariants.{Lost, NeedSolo, Full, OutOfMemory}
+use Rattle.stm_segment.specs.declared.books.Work.{Work}
+use Rattle.stm_segment.specs.declared.books.Books.{Books}
+use Rattle.stm_segment.specs.declared.halt.Halt.{Halt}
+use Rattle.stm_segment.specs.declared.halt.Halt.TheVariants.{Lost, NeedSolo, Full, OutOfMemory}
 use Rattle.stm_core.specs.declared.steps.Pause.{Pause}
 use Rattle.stm_core.specs.declared.steps.Pause.TheVariants.{Whole, Waits, Ended, Stopped}
-use Rattle.stm_core.specs.CoreState.{CoreState, sight_of}
-use Rattle.stm_core.specs.Asking.{WaitsThere, Reaches, AsksOutside, AsksRoom}
-use Rattle.stm_core.specs.Conflict.{IsStanding, AsksFrom}
-use Rattle.stm_core.specs.Devices.{DeviceState, Shown, IsLeftAlone, CountsGrow, StopRose}
-use Rattle.stm_core.specs.Books.{Worlds, with_own, transaction}
+use Rattle.stm_segment.specs.CoreState.{CoreState, sight_of}
+use Rattle.stm_segment.specs.Asking.{WaitsThere, Reaches, AsksOutside, AsksRoom}
+use Rattle.stm_segment.specs.Conflict.{IsStanding, AsksFrom}
+use Rattle.stm_segment.specs.Devices.{DeviceState, Shown, IsLeftAlone, CountsGrow, StopRose}
+use Rattle.stm_segment.specs.Books.{Worlds, with_own, transaction}
 use Rattle.stm_core.specs.inner.Whole.{StepBroke}
 use Rattle.stm_core.specs.inner.Pauses.{tried_by}
 use Rattle.stm_core.specs.Advance.{Gone}

@@ -7,13 +7,13 @@ use Rattle.py_data.specs.declared.change.Change.{Change}
 use Rattle.seg_store.specs.Meaning.{Meaning}
 use Rattle.seg_store.specs.Calls.{after_open}
 use Rattle.stm_pieces.specs.Ends.{last_of}
-use Rattle.stm_core.specs.declared.cause.Cause.TheVariants.{OutOfMemory}
-use Rattle.stm_core.specs.declared.books.Work.{Work}
-use Rattle.stm_core.specs.declared.books.Books.{Books}
-use Rattle.stm_core.specs.Moves.{first_cause}
+use Rattle.stm_segment.specs.declared.cause.Cause.TheVariants.{OutOfMemory}
+use Rattle.stm_segment.specs.declared.books.Work.{Work}
+use Rattle.stm_segment.specs.declared.books.Books.{Books}
+use Rattle.stm_segment.specs.CoreState.{first_cause}
 use Rattle.stm_core.specs.Advanced.{with_cause}
 use Rattle.stm_core.specs.Solo.{up_to_whole}
-use Rattle.stm_core.specs.Books.{Worlds, transaction, core_of}
+use Rattle.stm_segment.specs.Books.{Worlds, transaction, core_of}
 use Rattle.stm_core.specs.inner.Trying.{core_with}
 use Rattle.stm_core.specs.inner.Replayed.{replayed}
 

@@ -5,11 +5,11 @@ use Rattle.py_data.specs.declared.stop.Side.{Side}
 use Rattle.py_data.specs.declared.stop.Conflict.{Conflict}
 use Rattle.py_data.specs.declared.value.Addr.{Addr}
 use Rattle.seg_store.specs.Meaning.{Meaning}
-use Rattle.stm_core.specs.declared.books.Work.{Work}
-use Rattle.stm_core.specs.declared.books.Hand.{Hand}
-use Rattle.stm_core.specs.declared.books.Hand.TheVariants.{Runs}
-use Rattle.stm_core.specs.Conflict.{wins}
-use Rattle.stm_core.specs.Books.{runs_at}
+use Rattle.stm_segment.specs.declared.books.Work.{Work}
+use Rattle.stm_segment.specs.declared.books.Hand.{Hand}
+use Rattle.stm_segment.specs.declared.books.Hand.TheVariants.{Runs}
+use Rattle.stm_segment.specs.Conflict.{wins}
+use Rattle.stm_segment.specs.Books.{runs_at}
 use Rattle.stm_core.specs.Passes.{met}
 
 -- an address as a number, where there is one

@@ -8,11 +8,12 @@ use Rattle.py_data.specs.Sight.{Sight, pure}
 use Rattle.lock_run.specs.declared.client.Outcome.{Outcome}
 use Rattle.lock_run.specs.Prog.{Prog}
 use Rattle.seg_store.specs.Meaning.{Meaning}
-use Rattle.stm_core.specs.declared.books.Books.{Books}
-use Rattle.stm_core.specs.declared.books.Work.{Work}
-use Rattle.stm_core.specs.CoreState.{CoreState, sight_of}
-use Rattle.stm_core.specs.Books.{Worlds, transaction}
-use Rattle.stm_core.specs.InUse.{core_use, next_more, RisesWithin}
+use Rattle.stm_segment.specs.declared.books.Books.{Books}
+use Rattle.stm_segment.specs.declared.books.Work.{Work}
+use Rattle.stm_segment.specs.CoreState.{CoreState, sight_of}
+use Rattle.stm_segment.specs.Books.{Worlds, transaction}
+use Rattle.stm_segment.specs.InUse.{core_use, next_more}
+use Rattle.stm_core.specs.PeakRises.{RisesWithin}
 use Rattle.stm_core.specs.inner.Trying.{core_with}
 
 -- One step of the transaction x of segment k, done or cut: each peak, from class 1 on, is at most what it was, or at

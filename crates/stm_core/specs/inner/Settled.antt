@@ -4,13 +4,13 @@
 use Rattle.std.specs.Prelude.{◌≡◌, ◌⊎◌, ℕ, true, false, List, Option, None}
 use Rattle.lock_run.specs.Prog.{Prog}
 use Rattle.seg_store.specs.Meaning.{Meaning}
-use Rattle.stm_core.specs.declared.cause.Cause.{Cause}
-use Rattle.stm_core.specs.declared.books.Work.{Work}
-use Rattle.stm_core.specs.declared.books.Books.{Books}
+use Rattle.stm_segment.specs.declared.cause.Cause.{Cause}
+use Rattle.stm_segment.specs.declared.books.Work.{Work}
+use Rattle.stm_segment.specs.declared.books.Books.{Books}
 use Rattle.stm_core.specs.declared.steps.Pause.{Pause}
 use Rattle.stm_core.specs.Outside.{Outer}
-use Rattle.stm_core.specs.Devices.{DeviceState, Tells, Shown, CountsGrow}
-use Rattle.stm_core.specs.Books.{Worlds, broken_of, core_of}
+use Rattle.stm_segment.specs.Devices.{DeviceState, Tells, Shown, CountsGrow}
+use Rattle.stm_segment.specs.Books.{Worlds, broken_of, core_of}
 use Rattle.stm_core.specs.inner.Trying.{core_with}
 use Rattle.stm_core.specs.inner.Pausing.{PauseWhy, HasTold}
 use Rattle.stm_core.specs.SaneCore.{CauseRose}

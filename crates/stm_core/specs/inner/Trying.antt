@@ -5,12 +5,12 @@ use Rattle.py_data.specs.Heap.{Heap}
 use Rattle.lock_run.specs.Prog.{Prog}
 use Rattle.lock_run.specs.Machine.{Machine}
 use Rattle.seg_store.specs.Meaning.{Meaning}
-use Rattle.stm_core.specs.declared.books.Work.{Work}
-use Rattle.stm_core.specs.declared.books.Books.{Books}
-use Rattle.stm_core.specs.CoreState.{Running, CoreState, with_segment}
+use Rattle.stm_segment.specs.declared.books.Work.{Work}
+use Rattle.stm_segment.specs.declared.books.Books.{Books}
+use Rattle.stm_segment.specs.CoreState.{Running, CoreState, with_segment}
 use Rattle.stm_core.specs.Good.{Good}
-use Rattle.stm_core.specs.Books.{Worlds, transaction, core_of}
-use Rattle.stm_core.specs.Devices.{DeviceState, Shown}
+use Rattle.stm_segment.specs.Books.{Worlds, transaction, core_of}
+use Rattle.stm_segment.specs.Devices.{DeviceState, Shown}
 
 -- the core with the transaction that was taken out of segment k
 abbrev pub core_with : {S : Type 0} → Worlds → ℕ → Meaning → Books S → Work S → CoreState S

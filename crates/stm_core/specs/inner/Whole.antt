@@ -16,17 +16,17 @@ use Rattle.lock_run.specs.declared.client.Outcome.TheVariants.{Waits as WaitsNow
 use Rattle.lock_run.specs.Prog.{Prog}
 use Rattle.lock_run.specs.Cut.{RowCut}
 use Rattle.seg_store.specs.Meaning.{Meaning, holds}
-use Rattle.stm_core.specs.declared.books.Work.{Work}
-use Rattle.stm_core.specs.declared.books.Hand.TheVariants.{Runs}
-use Rattle.stm_core.specs.declared.books.Books.{Books}
-use Rattle.stm_core.specs.declared.halt.Halt.{Halt}
-use Rattle.stm_core.specs.declared.halt.Halt.TheVariants.{Lost, NeedSolo, Full, ReadFault, WriteFault, ErrFault, OutOfMemory}
-use Rattle.stm_core.specs.CoreState.{Transaction, CoreState, sight_of}
+use Rattle.stm_segment.specs.declared.books.Work.{Work}
+use Rattle.stm_segment.specs.declared.books.Hand.TheVariants.{Runs}
+use Rattle.stm_segment.specs.declared.books.Books.{Books}
+use Rattle.stm_segment.specs.declared.halt.Halt.{Halt}
+use Rattle.stm_segment.specs.declared.halt.Halt.TheVariants.{Lost, NeedSolo, Full, ReadFault, WriteFault, ErrFault, OutOfMemory}
+use Rattle.stm_segment.specs.CoreState.{Transaction, CoreState, sight_of}
 use Rattle.stm_core.specs.Moves.{Advances, Stays}
-use Rattle.stm_core.specs.Books.{WorkFits, runs_at, one_running, one_started, is_lock, Worlds, transaction, core_of}
-use Rattle.stm_core.specs.Asking.{WaitsThere, Reaches, AsksToChange, AsksOutside, AsksRoom, AskedFor, LooksNext, ChangesNext, Went}
-use Rattle.stm_core.specs.Devices.{DeviceState, Tells}
-use Rattle.stm_core.specs.inner.Hold.{Dooms, SegWhy, LosesTo, Beside, Hold}
+use Rattle.stm_segment.specs.Books.{WorkFits, runs_at, one_running, one_started, is_lock, Worlds, transaction, core_of}
+use Rattle.stm_segment.specs.Asking.{WaitsThere, Reaches, AsksToChange, AsksOutside, AsksRoom, AskedFor, LooksNext, ChangesNext, Went}
+use Rattle.stm_segment.specs.Devices.{DeviceState, Tells}
+use Rattle.stm_segment.specs.inner.Hold.{Dooms, SegWhy, LosesTo, Beside, Hold}
 
 -- all transactions are in their hands
 pub record Whole {S : Type 0} (m : Meaning) (b : Books S) : Type 0 where

@@ -6,7 +6,7 @@ use Rattle.stm_io.specs.Outside.{SourceState, SinkState}
 use Rattle.lock_run.specs.Prog.{Prog}
 use Rattle.seg_store.specs.Meaning.{Meaning}
 use Rattle.stm_core.specs.declared.transactions.Core.{Core}
-use Rattle.stm_core.specs.CoreState.{CoreState}
+use Rattle.stm_segment.specs.CoreState.{CoreState}
 use Rattle.stm_workers.specs.Growth.{ListsGrow, Grows}
 
 pub lists_same : {T : Type 0} (c : CoreState T) → ListsGrow c c

@@ -1,6 +1,6 @@
 use Rattle.std.proofs.Common.{◌≡◌, ◌++◌, ◌∷◌, [], length, sym, subst, ap, arith, length-append}
-use Rattle.stm_core.specs.declared.books.Hand.TheVariants.{Idle}
-use Rattle.stm_core.specs.Books.{AllIdle}
+use Rattle.stm_segment.specs.declared.books.Hand.TheVariants.{Idle}
+use Rattle.stm_segment.specs.Books.{AllIdle}
 use Rattle.stm_core.proofs.Ends.{push_idle}
 use Rattle.stm_core.proofs.finish.empty_hands.Goals as goal
 

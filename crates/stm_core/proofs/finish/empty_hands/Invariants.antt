@@ -1,5 +1,5 @@
 use Rattle.std.proofs.Common.{◌≡◌, length}
-use Rattle.stm_core.specs.Books.{AllIdle}
+use Rattle.stm_segment.specs.Books.{AllIdle}
 use Rattle.stm_core.proofs.finish.empty_hands.Given as goal
 
 abbrev pub invariant-hands : goal.invariant-hands

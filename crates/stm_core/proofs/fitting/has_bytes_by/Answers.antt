@@ -1,7 +1,7 @@
 use Rattle.std.proofs.Common.{arith}
 use Rattle.py_data.specs.Heap.{at}
 use Rattle.seg_store.specs.Meaning.{sees}
-use Rattle.stm_core.proofs.Sighting.{part_same}
+use Rattle.stm_segment.proofs.Sighting.{part_same}
 use Rattle.stm_core.proofs.fitting.has_bytes_by.Goals as goal
 
 pub parts-preserved : goal.parts-preserved

@@ -1,6 +1,6 @@
 use Rattle.std.proofs.Common.{arith}
 use Rattle.seg_store.specs.Meaning.{sees}
-use Rattle.stm_core.proofs.Sighting.{has_bytes}
+use Rattle.stm_segment.proofs.Sighting.{has_bytes}
 use Rattle.stm_core.proofs.fitting.has_part.Goals as goal
 
 pub copy_bytes-requires-clause-there : goal.copy_bytes-requires-clause-there

@@ -1,6 +1,6 @@
 use Rattle.std.proofs.Common.{arith}
 use Rattle.seg_store.specs.Meaning.{sees}
-use Rattle.stm_core.proofs.Sighting.{has_place}
+use Rattle.stm_segment.proofs.Sighting.{has_place}
 use Rattle.stm_core.proofs.fitting.has_values.Goals as goal
 
 pub val-requires-clause-there : goal.val-requires-clause-there

@@ -1,5 +1,5 @@
 use Rattle.seg_store.specs.Meaning.{sees}
-use Rattle.stm_core.proofs.Sighting.{seen_is}
+use Rattle.stm_segment.proofs.Sighting.{seen_is}
 use Rattle.stm_core.proofs.fitting.sees_record.Goals as goal
 
 pub returns-then-is_there : goal.returns-then-is_there

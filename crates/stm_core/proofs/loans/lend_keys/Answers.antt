@@ -1,7 +1,7 @@
 use Rattle.std.proofs.Common.{refl, sym, ◌∙◌, arith}
 use Rattle.seg_store.specs.Meaning.{sees}
 use Rattle.stm_pieces.specs.PieceOf.{piece_state}
-use Rattle.stm_core.proofs.Sighting.{has_place}
+use Rattle.stm_segment.proofs.Sighting.{has_place}
 use Rattle.stm_core.proofs.Lending.{lent_there}
 use Rattle.stm_core.proofs.loans.lend_keys.Goals as goal
 

@@ -2,7 +2,7 @@ use Rattle.std.proofs.Common.{◌≡◌, inr, Some, ap, ◌∙◌, subst}
 use Rattle.lock_run.specs.RunState.{first_world}
 use Rattle.paged_store.specs.Stores.{paged_meaning, reserved_of, peaks_of}
 use Rattle.stm_core.specs.CoreHeld.{core_client, core_limits, core_store}
-use Rattle.stm_core.specs.CoreState.{core_new}
+use Rattle.stm_segment.specs.CoreState.{core_new}
 use Rattle.stm_core.specs.Outside.{outer_new}
 use Rattle.stm_top.specs.TopCall.{Told, devices_of, limits_of, told_of}
 use Rattle.stm_top.specs.inner.Ending.{RunEnds}

@@ -1,8 +1,8 @@
 use Rattle.std.proofs.Common.{◌≡◌, ◌/◌, refl, sym, ap, subst, Err, arith}
 use Rattle.std.proofs.lemmas.Option.{slice_get_within}
 use Rattle.stm_core.specs.declared.answers.AdvanceError.TheVariants.{Lost}
-use Rattle.stm_core.specs.declared.books.Hand.TheVariants.{Idle, Doomed, Runs}
-use Rattle.stm_core.specs.declared.books.Books.{Books}
+use Rattle.stm_segment.specs.declared.books.Hand.TheVariants.{Idle, Doomed, Runs}
+use Rattle.stm_segment.specs.declared.books.Books.{Books}
 use Rattle.stm_core.specs.Begun.{CountsSteps}
 use Rattle.stm_core.specs.Advanced.{Advanced}
 use Rattle.stm_core.specs.SaneCore.{StandsFor, LeadsBetween}

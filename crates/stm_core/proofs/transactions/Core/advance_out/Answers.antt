@@ -1,6 +1,6 @@
 use Rattle.std.proofs.Common.{◌≡◌, ◌/◌, inl, sym, ◌∙◌, ap, subst, arith}
 use Rattle.stm_core.specs.Begun.{CountsSteps}
-use Rattle.stm_core.specs.Devices.{device_state}
+use Rattle.stm_segment.specs.Devices.{device_state}
 use Rattle.stm_core.specs.inner.Trying.{core_with}
 use Rattle.stm_core.specs.inner.Settled.{Rises}
 use Rattle.stm_core.proofs.PeaksRising.{within_same}

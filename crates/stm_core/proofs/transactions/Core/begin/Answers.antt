@@ -1,10 +1,10 @@
 use Rattle.std.proofs.Common.{◌≡◌, Some, Ok, Err, refl, sym, ap, subst, ◌∙◌, arith}
 use Rattle.std.proofs.lemmas.Option.{slice_get_within}
-use Rattle.stm_core.specs.declared.cause.Cause.TheVariants.{OutOfMemory as NoMemoryLeft}
+use Rattle.stm_segment.specs.declared.cause.Cause.TheVariants.{OutOfMemory as NoMemoryLeft}
 use Rattle.stm_core.specs.declared.begin.BeginError.TheVariants.{OutOfMemory}
-use Rattle.stm_core.specs.CoreState.{CoreState}
+use Rattle.stm_segment.specs.CoreState.{CoreState}
 use Rattle.stm_core.specs.Moves.{begun_at}
-use Rattle.stm_core.specs.Books.{Worlds, segment_of, core_of}
+use Rattle.stm_segment.specs.Books.{Worlds, segment_of, core_of}
 use Rattle.stm_core.specs.inner.Whole.{SameShape}
 use Rattle.stm_core.specs.Begun.{IsUnready, Begun, CountsSteps}
 use Rattle.seg_store.specs.Store.{IsStore}

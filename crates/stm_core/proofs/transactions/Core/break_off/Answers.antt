@@ -1,7 +1,7 @@
 use Rattle.std.proofs.Common.{ap, ◌∙◌}
-use Rattle.stm_core.specs.declared.books.Books.{Books}
-use Rattle.stm_core.specs.Moves.{first_cause}
-use Rattle.stm_core.specs.Books.{transaction}
+use Rattle.stm_segment.specs.declared.books.Books.{Books}
+use Rattle.stm_segment.specs.CoreState.{first_cause}
+use Rattle.stm_segment.specs.Books.{transaction}
 use Rattle.stm_core.specs.inner.Trying.{core_with}
 use Rattle.stm_core.specs.Advanced.{with_cause}
 use Rattle.stm_core.proofs.Settling.{caused, core_caused}

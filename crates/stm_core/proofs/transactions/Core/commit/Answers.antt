@@ -1,13 +1,13 @@
 use Rattle.std.proofs.Common.{◌≡◌, Err, refl, sym, ap, subst, ◌∙◌, slice_get, arith}
 use Rattle.std.proofs.lemmas.Option.{slice_get_within}
-use Rattle.stm_core.specs.declared.books.Hand.TheVariants.{Idle, Doomed, Runs}
-use Rattle.stm_core.specs.declared.books.Books.{Books}
-use Rattle.stm_core.specs.Books.{Worlds, core_of}
+use Rattle.stm_segment.specs.declared.books.Hand.TheVariants.{Idle, Doomed, Runs}
+use Rattle.stm_segment.specs.declared.books.Books.{Books}
+use Rattle.stm_segment.specs.Books.{Worlds, core_of}
 use Rattle.stm_core.specs.Begun.{CountsSteps}
 use Rattle.stm_core.specs.Committed.{Committed}
 use Rattle.stm_core.specs.CoreHeld.{core_limits}
 use Rattle.stm_core.specs.Outside.{InCore}
-use Rattle.stm_core.proofs.Fits.{get_set_same}
+use Rattle.stm_segment.proofs.Fits.{get_set_same}
 use Rattle.stm_core.proofs.Wholes.{Set, taken}
 use Rattle.stm_core.proofs.Publishing.{emptied, thread_there, number_alone, committed_taken, committed_doomed, committed_stands}
 use Rattle.stm_core.proofs.Calling.{ending_now, Quiet, quiet_good, quiet_job, quiet_leads, full_same, rose_same, le_same}

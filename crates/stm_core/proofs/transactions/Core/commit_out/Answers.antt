@@ -1,8 +1,8 @@
 use Rattle.std.proofs.Common.{◌≢◌, Some, None, length, ap, subst, ◌∙◌, arith}
 use Rattle.std.specs.List.{range_with_len}
-use Rattle.stm_core.specs.CoreState.{with_conflict}
+use Rattle.stm_segment.specs.CoreState.{with_conflict}
 use Rattle.stm_core.specs.Moves.{published}
-use Rattle.stm_core.specs.Books.{worlds_after, transaction}
+use Rattle.stm_segment.specs.Books.{worlds_after, transaction}
 use Rattle.stm_core.specs.inner.Trying.{core_with}
 use Rattle.stm_core.specs.inner.Readers.{FirstBeats}
 use Rattle.stm_core.proofs.Committing.{none_wins, beaten_is}

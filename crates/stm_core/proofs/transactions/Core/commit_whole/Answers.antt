@@ -1,6 +1,6 @@
 use Rattle.std.proofs.Common.{ap, ◌∙◌}
 use Rattle.stm_core.specs.Moves.{published}
-use Rattle.stm_core.specs.Books.{worlds_after, transaction}
+use Rattle.stm_segment.specs.Books.{worlds_after, transaction}
 use Rattle.stm_core.specs.inner.Trying.{core_with}
 use Rattle.stm_core.proofs.Publishing.{left_idle, thread_still, count_still}
 use Rattle.stm_core.proofs.Breaking.{whole_none, whole_some}

@@ -1,8 +1,7 @@
 use Rattle.std.proofs.Common.{false, sym, ap, subst, ◌∙◌, slice_get}
-use Rattle.stm_core.specs.Books.{Fit, side_of}
+use Rattle.stm_segment.specs.Books.{Fit, side_of}
 use Rattle.stm_core.specs.inner.Trying.{core_with}
-use Rattle.stm_core.proofs.Publish.{get_set_other}
-use Rattle.stm_core.proofs.Fits.{started_pending, fit_doom}
+use Rattle.stm_segment.proofs.Fits.{get_set_other, started_pending, fit_doom}
 use Rattle.stm_core.proofs.Committing.{reader_is, doom_some}
 use Rattle.stm_core.proofs.transactions.Core.doom_reader.Goals as goal
 

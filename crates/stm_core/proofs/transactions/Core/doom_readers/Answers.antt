@@ -1,7 +1,7 @@
 use Rattle.std.proofs.Common.{ap, ◌∙◌, ◌-◌, ◌+◌, cond, eqb, arith}
 use Rattle.std.specs.List.{range_with_len}
 use Rattle.stm_core.specs.Passes.{doom_one, doom_readers}
-use Rattle.stm_core.specs.Books.{transaction}
+use Rattle.stm_segment.specs.Books.{transaction}
 use Rattle.stm_core.specs.inner.Trying.{core_with}
 use Rattle.stm_core.proofs.Committing.{dooms_on}
 use Rattle.stm_core.proofs.transactions.Core.doom_readers.Goals as goal

@@ -1,7 +1,7 @@
 use Rattle.std.proofs.Common.{◌≡◌, ◌-◌, slice_get}
 use Rattle.std.specs.List.{range_with_len}
 use Rattle.stm_core.specs.Passes.{doom_readers}
-use Rattle.stm_core.specs.Books.{Worlds, Fit, transaction}
+use Rattle.stm_segment.specs.Books.{Worlds, Fit, transaction}
 use Rattle.stm_core.specs.inner.Whole.{SameShape}
 use Rattle.stm_core.specs.inner.Trying.{core_with}
 use Rattle.stm_core.proofs.transactions.Core.doom_readers.Given as goal

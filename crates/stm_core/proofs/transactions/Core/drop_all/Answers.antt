@@ -1,5 +1,5 @@
 use Rattle.std.proofs.Common.{ap, ◌∙◌, arith}
-use Rattle.stm_core.specs.Books.{core_of}
+use Rattle.stm_segment.specs.Books.{core_of}
 use Rattle.stm_core.specs.Finishing.{idle_core}
 use Rattle.stm_core.proofs.Ends.{still_idle, core_idle, unused}
 use Rattle.stm_core.proofs.Calling.{blank}

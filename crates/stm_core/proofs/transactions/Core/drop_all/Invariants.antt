@@ -1,6 +1,6 @@
 use Rattle.std.proofs.Common.{◌≡◌, ◌<◌, ℕ}
-use Rattle.stm_core.specs.CoreState.{Idle}
-use Rattle.stm_core.specs.Books.{Worlds, core_of}
+use Rattle.stm_segment.specs.CoreState.{Idle}
+use Rattle.stm_segment.specs.Books.{Worlds, core_of}
 use Rattle.stm_core.specs.inner.Whole.{Whole, SameShape}
 use Rattle.stm_core.specs.Finishing.{idle_core}
 use Rattle.stm_core.proofs.transactions.Core.drop_all.Given as goal

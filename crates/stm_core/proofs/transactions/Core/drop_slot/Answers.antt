@@ -1,7 +1,7 @@
 use Rattle.std.proofs.Common.{refl, ap, ◌∙◌, slice_get}
 use Rattle.std.proofs.lemmas.Option.{slice_get_within}
-use Rattle.stm_core.specs.declared.books.Hand.TheVariants.{Idle, Doomed, Runs}
-use Rattle.stm_core.proofs.Fits.{get_set_same}
+use Rattle.stm_segment.specs.declared.books.Hand.TheVariants.{Idle, Doomed, Runs}
+use Rattle.stm_segment.proofs.Fits.{get_set_same}
 use Rattle.stm_core.proofs.Wholes.{taken, core_set}
 use Rattle.stm_core.proofs.Publishing.{emptied}
 use Rattle.stm_core.proofs.transactions.Core.drop_slot.Goals as goal

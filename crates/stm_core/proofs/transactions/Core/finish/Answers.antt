@@ -2,7 +2,7 @@ use Rattle.stm_core.proofs.Calling.{same_then}
 use Rattle.std.proofs.Common.{ap, subst}
 use Rattle.lock_run.specs.RunState.{first_world}
 use Rattle.lock_run.specs.Machine.{begin_with}
-use Rattle.stm_core.specs.CoreState.{CoreState}
+use Rattle.stm_segment.specs.CoreState.{CoreState}
 use Rattle.stm_core.specs.Outside.{Outer}
 use Rattle.stm_core.specs.Standing.{IsOutcome}
 use Rattle.stm_core.specs.CoreHeld.{core_client, core_limits, first_devices}

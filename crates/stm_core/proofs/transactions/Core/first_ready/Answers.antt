@@ -1,5 +1,5 @@
 use Rattle.std.proofs.Common.{◌≤◌, arith, below_more}
-use Rattle.stm_core.specs.Books.{core_of}
+use Rattle.stm_segment.specs.Books.{core_of}
 use Rattle.stm_core.specs.Begun.{IsUnready}
 use Rattle.stm_core.proofs.transactions.Core.first_ready.Goals as goal
 

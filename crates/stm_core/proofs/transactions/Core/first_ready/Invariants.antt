@@ -1,5 +1,5 @@
 use Rattle.std.proofs.Common.{◌<◌, ◌≤◌, ℕ}
-use Rattle.stm_core.specs.Books.{Worlds, core_of}
+use Rattle.stm_segment.specs.Books.{Worlds, core_of}
 use Rattle.stm_core.specs.Begun.{IsUnready}
 use Rattle.stm_core.proofs.transactions.Core.first_ready.Given as goal
 

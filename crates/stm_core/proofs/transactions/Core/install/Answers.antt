@@ -2,7 +2,7 @@ use Rattle.std.proofs.Common.{refl, arith}
 use Rattle.std.proofs.lemmas.Option.{slice_get_within}
 use Rattle.stm_pieces.specs.Ends.{last_of}
 use Rattle.stm_pieces.specs.PieceOf.{piece_state}
-use Rattle.stm_core.specs.declared.books.Hand.TheVariants.{Idle, Runs}
+use Rattle.stm_segment.specs.declared.books.Hand.TheVariants.{Idle, Runs}
 use Rattle.stm_core.specs.CoreHeld.{core_devices, first_devices, IsFullKept}
 use Rattle.stm_core.specs.Pieces.{IsInstalled}
 use Rattle.stm_core.specs.SaneCore.{CauseRose}

@@ -2,12 +2,12 @@ use Rattle.std.proofs.Common.{ap, sym, subst, ◌∙◌}
 use Rattle.seg_store.specs.Meaning.{Meaning}
 use Rattle.seg_store.specs.Calls.{after_open}
 use Rattle.stm_core.specs.Begun.{CountsSteps}
-use Rattle.stm_core.specs.Books.{Fit}
-use Rattle.stm_core.specs.declared.books.Work.{Work}
+use Rattle.stm_segment.specs.Books.{Fit}
+use Rattle.stm_segment.specs.declared.books.Work.{Work}
 use Rattle.stm_core.specs.inner.Replayed.{replayed, OnlyChanges}
 use Rattle.stm_core.specs.inner.Whole.{SameShape}
 use Rattle.stm_core.proofs.Calling.{blank}
-use Rattle.stm_core.proofs.Fits.{fit_open}
+use Rattle.stm_segment.proofs.Fits.{fit_open}
 use Rattle.stm_core.proofs.Replaying.{taken_back}
 use Rattle.stm_core.proofs.Putting.{fit_replayed, shape_replayed, failed_out, put_in}
 use Rattle.stm_core.proofs.transactions.Core.install_out.Goals as goal
@@ -60,7 +60,7 @@ pub returns-in-Ok-clause-ok : goal.returns-in-Ok-clause-ok
 returns-in-Ok-clause-ok g c = put_in c.args.k (g.S.SegStore.meaning c.args.self.now.store)
     (g.S.SegStore.meaning c.open_step.new.self) c.args.self.now.books c.args.work c.open.new.self
     c.open_step.ensures.meaning c.open.ensures c.requires.fit c.args.edits.now c.args.steps c.args.last
-    (g.S.SegStore.meaning c.replay.new.store) (g.S.SegStore.meaning c.put_back.new.self.store) c.count_steps.new.self
+    (g.S.SegStore.meaning c.replay.new.store) (g.S.SegStore.meaning c.put_back.new.self.store) c.count_steps.new.work
     c.put_back.new.self.books c.in-Ok.ensures.ok c.count_steps.ensures
     (ap (λ z. g.S.SegStore.meaning z.store) c.put_back.ensures.rest) c.put_back.ensures.broken c.put_back.ensures.core
 

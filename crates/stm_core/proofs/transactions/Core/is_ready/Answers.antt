@@ -1,6 +1,6 @@
 use Rattle.std.proofs.Common.{sym, subst, ◌∙◌, arith}
 use Rattle.lock_run.specs.Client.{Waiting, Going}
-use Rattle.stm_core.proofs.Hands.{not_true, not_false}
+use Rattle.stm_segment.proofs.Hands.{not_true, not_false}
 use Rattle.stm_core.proofs.Beginning.{ready, unready_none, unready_runs, unready_waits}
 use Rattle.stm_core.proofs.transactions.Core.is_ready.Goals.{then-t-len-via-then-t-len, then-t-len-via-else-t-len+then-runs_thread}
 use Rattle.stm_core.proofs.transactions.Core.is_ready.Goals as goal

@@ -1,8 +1,8 @@
 use Rattle.std.proofs.Common.{◌≡◌, ◌∙◌, Some, Err, refl, sym, ap, subst}
 use Rattle.std.proofs.lemmas.Result.{IfOk-weaker}
 use Rattle.stm_core.specs.declared.answers.LoanError.TheVariants.{Lost}
-use Rattle.stm_core.specs.declared.books.Books.{Books}
-use Rattle.stm_core.specs.declared.books.Hand.TheVariants.{Idle, Doomed}
+use Rattle.stm_segment.specs.declared.books.Books.{Books}
+use Rattle.stm_segment.specs.declared.books.Hand.TheVariants.{Idle, Doomed}
 use Rattle.stm_core.specs.Begun.{CountsSteps}
 use Rattle.stm_core.specs.Pieces.{IsLoaned}
 use Rattle.stm_core.proofs.Wholes.{Set}

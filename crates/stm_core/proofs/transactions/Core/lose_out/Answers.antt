@@ -1,5 +1,5 @@
 use Rattle.std.proofs.Common.{ap, ◌∙◌}
-use Rattle.stm_core.specs.CoreState.{with_conflict}
+use Rattle.stm_segment.specs.CoreState.{with_conflict}
 use Rattle.stm_core.proofs.Wholes.{noted, core_noted, still_room, some_room}
 use Rattle.stm_core.proofs.transactions.Core.lose_out.Goals as goal
 

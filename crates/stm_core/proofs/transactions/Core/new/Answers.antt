@@ -1,7 +1,7 @@
 use Rattle.std.proofs.Common.{sym, subst, refl}
-use Rattle.stm_core.specs.Books.{IsFirst}
+use Rattle.stm_segment.specs.Books.{IsFirst}
 use Rattle.stm_core.specs.Begun.{CountsSteps}
-use Rattle.stm_core.specs.Devices.{device_state}
+use Rattle.stm_segment.specs.Devices.{device_state}
 use Rattle.stm_core.specs.CoreHeld.{IsFullKept}
 use Rattle.stm_core.proofs.Ends.{new_whole, stands_first, new_sane}
 use Rattle.stm_core.proofs.transactions.Core.new.Goals as goal

@@ -1,5 +1,5 @@
 use Rattle.std.proofs.Common.{sym, subst, Some}
-use Rattle.stm_core.specs.Books.{core_of}
+use Rattle.stm_segment.specs.Books.{core_of}
 use Rattle.stm_core.specs.Standing.{IsNext}
 use Rattle.stm_core.proofs.Beginning.{sound_core}
 use Rattle.stm_core.proofs.Standings.{next_none, next_far, next_above, next_below}

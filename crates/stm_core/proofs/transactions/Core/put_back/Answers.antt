@@ -1,5 +1,5 @@
 use Rattle.std.proofs.lemmas.Option.{slice_get_within}
-use Rattle.stm_core.specs.declared.books.Hand.TheVariants.{Idle, Runs}
+use Rattle.stm_segment.specs.declared.books.Hand.TheVariants.{Idle, Runs}
 use Rattle.stm_core.proofs.Wholes.{put_back, core_set}
 use Rattle.stm_core.proofs.transactions.Core.put_back.Goals as goal
 

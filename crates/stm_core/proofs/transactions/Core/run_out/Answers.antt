@@ -1,8 +1,8 @@
 use Rattle.std.proofs.Common.{◌≡◌, ◌+◌, ◌/◌, ℕ, List, Option, refl, sym, ◌∙◌, ap, subst, arith, add-zero}
 use Rattle.stm_core.specs.declared.steps.Pause.TheVariants.{Whole, Waits, Ended, Stopped}
-use Rattle.stm_core.specs.Books.{Worlds, with_own}
-use Rattle.stm_core.specs.Devices.{Shown, device_state}
-use Rattle.stm_core.specs.InUse.{IfTold}
+use Rattle.stm_segment.specs.Books.{Worlds, with_own}
+use Rattle.stm_segment.specs.Devices.{Shown, device_state}
+use Rattle.stm_segment.specs.InUse.{IfTold}
 use Rattle.stm_core.specs.inner.Trying.{core_with}
 use Rattle.stm_core.specs.inner.Pausing.{Paused}
 use Rattle.stm_core.specs.inner.Rising.{RisesOut}

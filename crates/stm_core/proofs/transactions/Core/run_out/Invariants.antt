@@ -1,11 +1,11 @@
 use Rattle.std.proofs.Common.{◌≡◌, ◌≤◌, ◌+◌, ℕ, false, slice_get, Some, List, Option}
 use Rattle.lock_run.specs.declared.client.Life.TheVariants.{Lives}
 use Rattle.seg_store.specs.Store.{IsStore}
-use Rattle.stm_core.specs.declared.books.Hand.TheVariants.{Idle}
+use Rattle.stm_segment.specs.declared.books.Hand.TheVariants.{Idle}
 use Rattle.stm_core.specs.declared.steps.Pause.TheVariants.{Whole}
-use Rattle.stm_core.specs.Books.{Worlds, Fit}
-use Rattle.stm_core.specs.InUse.{IfTold}
-use Rattle.stm_core.specs.Devices.{device_state, Shown, CountsGrow, IsLeftAlone}
+use Rattle.stm_segment.specs.Books.{Worlds, Fit}
+use Rattle.stm_segment.specs.InUse.{IfTold}
+use Rattle.stm_segment.specs.Devices.{device_state, Shown, CountsGrow, IsLeftAlone}
 use Rattle.stm_core.specs.inner.Whole.{SameShape}
 use Rattle.stm_core.specs.inner.Trying.{SaneShown, core_with}
 use Rattle.stm_core.specs.inner.Pausing.{Paused}

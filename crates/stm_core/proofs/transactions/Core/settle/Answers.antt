@@ -1,5 +1,5 @@
 use Rattle.std.proofs.Common.{ap, subst, inl}
-use Rattle.stm_core.specs.Devices.{device_state}
+use Rattle.stm_segment.specs.Devices.{device_state}
 use Rattle.stm_core.specs.inner.Pauses.{PauseCount}
 use Rattle.stm_core.specs.inner.Pausing.{PauseRose}
 use Rattle.stm_core.proofs.Endings.{ran_ends, waits_ends, ended_ends}

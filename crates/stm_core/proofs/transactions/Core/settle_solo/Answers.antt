@@ -1,6 +1,6 @@
 use Rattle.std.proofs.Common.{arith}
 use Rattle.std.proofs.lemmas.Option.{slice_get_within}
-use Rattle.stm_core.specs.declared.books.Hand.TheVariants.{Runs}
+use Rattle.stm_segment.specs.declared.books.Hand.TheVariants.{Runs}
 use Rattle.stm_core.specs.CoreHeld.{core_limits}
 use Rattle.stm_core.proofs.FinishingLemmas.{may_commit, solo_settles, none_after, none_settles}
 use Rattle.stm_core.proofs.transactions.Core.settle_solo.Goals as goal

@@ -1,5 +1,5 @@
 use Rattle.std.proofs.Common.{sym, ap, subst, inl, Err}
-use Rattle.stm_core.specs.Devices.{device_state, StopRose}
+use Rattle.stm_segment.specs.Devices.{device_state, StopRose}
 use Rattle.stm_core.specs.Counted.{FaultRose}
 use Rattle.stm_core.proofs.Endings.{solo_ends, lost_ends, full_ends, memory_ends, read_ends, write_ends, err_ends}
 use Rattle.stm_core.proofs.Calling.{blank}

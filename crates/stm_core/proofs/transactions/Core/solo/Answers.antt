@@ -1,7 +1,7 @@
 use Rattle.std.proofs.Common.{◌≡◌, ◌∙◌, Err, refl, sym, ap, subst, arith}
 use Rattle.std.proofs.lemmas.Option.{slice_get_within}
-use Rattle.stm_core.specs.declared.books.Books.{Books}
-use Rattle.stm_core.specs.declared.books.Hand.TheVariants.{Idle, Doomed, Runs}
+use Rattle.stm_segment.specs.declared.books.Books.{Books}
+use Rattle.stm_segment.specs.declared.books.Hand.TheVariants.{Idle, Doomed, Runs}
 use Rattle.stm_core.specs.declared.solo.SoloError.TheVariants.{Lost}
 use Rattle.seg_store.specs.Store.{IsStore}
 use Rattle.stm_core.specs.Begun.{CountsSteps}

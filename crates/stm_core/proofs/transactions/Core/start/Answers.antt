@@ -1,7 +1,7 @@
 use Rattle.std.proofs.Common.{sym, subst, ap, ◌∙◌}
 use Rattle.std.proofs.lemmas.Option.{slice_get_within}
-use Rattle.stm_core.specs.declared.books.Hand.TheVariants.{Idle}
-use Rattle.stm_core.specs.Books.{core_of}
+use Rattle.stm_segment.specs.declared.books.Hand.TheVariants.{Idle}
+use Rattle.stm_segment.specs.Books.{core_of}
 use Rattle.stm_core.specs.inner.Whole.{Whole}
 use Rattle.stm_core.proofs.Beginning.{changed_none, made_none, begun_whole, core_begun}
 use Rattle.stm_core.proofs.transactions.Core.start.Goals as goal

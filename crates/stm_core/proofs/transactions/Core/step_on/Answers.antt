@@ -1,11 +1,11 @@
 use Rattle.std.proofs.Common.{◌≢◌, refl, sym, ap, ◌∙◌, subst, arith, ◌+◌, ◌/◌, true}
-use Rattle.stm_core.specs.declared.books.Work.{Work}
+use Rattle.stm_segment.specs.declared.books.Work.{Work}
 use Rattle.stm_core.specs.declared.steps.Pause.TheVariants.{Whole, Waits, Ended, Stopped}
 use Rattle.lock_run.specs.Client.{LifeAfter}
 use Rattle.lock_run.specs.declared.client.Outcome.TheVariants.{Done, Waits as WaitsNow}
-use Rattle.stm_core.specs.Devices.{device_state}
+use Rattle.stm_segment.specs.Devices.{device_state}
 use Rattle.stm_core.specs.Advance.{Tried}
-use Rattle.stm_core.specs.InUse.{IfTold}
+use Rattle.stm_segment.specs.InUse.{IfTold}
 use Rattle.stm_core.specs.inner.Rising.{RisesInStep}
 use Rattle.stm_core.specs.inner.Trying.{Sane, SaneShown, core_with}
 use Rattle.stm_core.specs.inner.Pausing.{Paused}

@@ -4,13 +4,13 @@ use Rattle.py_data.specs.declared.stop.Side.{Side}
 use Rattle.py_data.specs.declared.stop.Stop.{Stop}
 use Rattle.py_data.specs.Row.{Row}
 use Rattle.lock_run.specs.declared.client.Outcome.{Outcome}
-use Rattle.stm_core.specs.declared.halt.Halt.{Halt}
-use Rattle.stm_core.specs.declared.segment.SegView.{SegView}
-use Rattle.stm_core.specs.Books.{Fit, Worlds, transaction}
-use Rattle.stm_core.specs.Conflict.{side}
-use Rattle.stm_core.specs.Devices.{DeviceState, device_state, Shown, ShowsWorld, StopRose}
-use Rattle.stm_core.specs.inner.Halts.{gave_none}
-use Rattle.stm_core.specs.inner.Hold.{Hold, holding}
+use Rattle.stm_segment.specs.declared.halt.Halt.{Halt}
+use Rattle.stm_segment.specs.declared.segment.SegView.{SegView}
+use Rattle.stm_segment.specs.Books.{Fit, Worlds, transaction}
+use Rattle.stm_segment.specs.Conflict.{side}
+use Rattle.stm_segment.specs.Devices.{DeviceState, device_state, Shown, ShowsWorld, StopRose}
+use Rattle.stm_segment.specs.inner.Halts.{gave_none}
+use Rattle.stm_segment.specs.inner.Hold.{Hold, holding}
 use Rattle.stm_core.specs.inner.Whole.{StepCut, StepBroke}
 use Rattle.stm_core.proofs.Halting.{on_err_told}
 use Rattle.stm_core.proofs.Keeping.{StepKept, step_keeps}

@@ -1,10 +1,10 @@
 use Rattle.std.proofs.Common.{refl, sym, ◌∙◌, ap, subst, arith}
 use Rattle.stm_core.specs.Counted.{FaultRose}
-use Rattle.stm_core.specs.Books.{with_own}
+use Rattle.stm_segment.specs.Books.{with_own}
 use Rattle.stm_core.specs.Begun.{CountsSteps}
-use Rattle.stm_core.specs.Devices.{device_state}
+use Rattle.stm_segment.specs.Devices.{device_state}
 use Rattle.stm_core.specs.inner.Trying.{core_with}
-use Rattle.stm_core.specs.InUse.{IfTold}
+use Rattle.stm_segment.specs.InUse.{IfTold}
 use Rattle.stm_core.specs.inner.Pausing.{PauseWhy}
 use Rattle.stm_core.specs.inner.Rising.{RisesOut}
 use Rattle.stm_core.specs.inner.Settled.{KeepsOrRose, Rises}

@@ -1,5 +1,0 @@
-use Rattle.py_calls.proofs.Afters.{may_set}
-use Rattle.py_calls.proofs.prints.print_newline_row.Goals as goal
-
-pub set_mid_line-requires-clause-solo : goal.set_mid_line-requires-clause-solo
-set_mid_line-requires-clause-solo g c = may_set g.met.V.View.bracketed _ _ _ c.in_ok-put.ensures

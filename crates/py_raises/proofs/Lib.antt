@@ -1,0 +1,3 @@
+mod Lasts
+mod Afters
+mod Loops

@@ -1,8 +1,0 @@
-use Rattle.std.proofs.Common.{◌≡◌, ◌≢◌, ◌<◌, ℕ, slice_get, Some}
-use Rattle.stm_core.specs.declared.books.Work.{Work}
-use Rattle.stm_core.specs.declared.books.Hand.TheVariants.{Runs}
-use Rattle.stm_core.proofs.books.Books.runs_thread.Given as goal
-
-abbrev pub invariant-loop-hand : goal.invariant-loop-hand
-invariant-loop-hand g l = (j : ℕ) (y : Work g.row.T.Denot) → j < l.hand-index →
-    slice_get l.hand-items j ≡ Some (Runs y) → l.t ≢ y.thread
