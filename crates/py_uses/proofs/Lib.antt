@@ -1,0 +1,5 @@
+mod Told
+mod Tallying
+mod UsedStatements
+pub mod ModuleUses
+mod Gathers
