@@ -2,4 +2,4 @@ mod Told
 mod Tallying
 mod UsedStatements
 pub mod ModuleUses
-mod Gathers
+pub mod Gathers
