@@ -20,15 +20,15 @@ use Rattle.py_code.specs.Right.{opens_body, all_instrs, is_body, HasCellAt, Belo
 use Rattle.py_code.proofs.RightRows.{texts_told, names_told}
 use Rattle.py_tree.specs.declared.stmt.Stmt.{Stmt}
 use Rattle.py_tree.specs.declared.stmt.Module.{Module}
-use Rattle.py_compile.specs.Template.{Op, Sub}
-use Rattle.py_compile.specs.Names.{Known, number_in, text, main_texts}
+use Rattle.py_templates.specs.Template.{Op, Sub}
+use Rattle.py_templates.specs.Names.{Known, number_in, text, main_texts}
 use Rattle.py_base.specs.NameLists.{has}
 use Rattle.py_names.specs.Outline.{is_none}
-use Rattle.py_compile.specs.Uses.{Use, Text, Global, Keys, module_uses}
-use Rattle.py_compile.specs.Statements.{Body, stated_block}
+use Rattle.py_templates.specs.Uses.{Use, Text, Global, Keys, module_uses}
+use Rattle.py_templates.specs.Statements.{Body, stated_block}
 use Rattle.compiler_laws.proofs.Legal.{legal_all}
-use Rattle.py_compile.specs.Whole as whole
-use Rattle.py_compile.proofs.ExprInduct.{Every}
+use Rattle.py_templates.specs.Whole as whole
+use Rattle.py_templates.proofs.ExprInduct.{Every}
 use Rattle.compiler_laws.proofs.World.{known, lim, Slotted, BodiesOk}
 use Rattle.compiler_laws.proofs.Surrounds.{Does}
 use Rattle.compiler_laws.proofs.Numbers.{Noted, all_noted}
@@ -41,7 +41,7 @@ use Rattle.compiler_laws.proofs.BodyClean.{module_clean}
 use Rattle.compiler_laws.proofs.BelongRows.{no_setup, every_all, opens_none, belongs_from, number_is}
 use Rattle.compiler_laws.proofs.Program.{IsWhole}
 use Rattle.compiler_laws.proofs.CodesRight as made
-use Rattle.py_compile.proofs.Compiled.{least_apart}
+use Rattle.py_templates.proofs.Leasts.{least_apart}
 use Rattle.compiler_laws.proofs.ParamSlots.{ParamsFit}
 
 -- the instructions of a whole code: those that fit, behind SETUP in the first one

@@ -17,14 +17,14 @@ use Rattle.py_names.specs.declared.event.BodyKind.TheVariants as kind
 use Rattle.py_names.specs.declared.statement.Where.{Where}
 use Rattle.py_names.specs.Outline.{bound_name, read, target, read_some, target_some, outside, inside_function, inside_loop, inside_finally, inside_clause, parameters, takes, says, says_block, says_arm, says_arms, says_clause, says_handler, says_handlers, outline}
 use Rattle.py_names.proofs.Says.{says_do, says_assign, says_augment, says_print, says_pass, says_break, says_continue, says_return, says_raise, says_del, says_global, says_assert, says_import, says_from, says_if, says_while, says_for, says_try, says_def, says_class}
-use Rattle.py_compile.specs.Statements.{Body, inners, armed_count, armed_inner, handled_inner, inner_body, stated, all_stated, stated_arms, stated_handlers, count}
-use Rattle.py_compile.specs.inner.Compounds.{otherwise, tried_of}
-use Rattle.py_compile.specs.Whole.{bodies}
-use Rattle.py_compile.proofs.Stateds.{stated_do, stated_assign, stated_augment, stated_print, stated_pass, stated_break, stated_continue, stated_return, stated_raise, stated_del, stated_global, stated_assert, stated_import, stated_from, stated_if, stated_while, stated_for, inner_try, stated_def, stated_class}
+use Rattle.py_templates.specs.Statements.{Body, inners, armed_count, armed_inner, handled_inner, inner_body, stated, all_stated, stated_arms, stated_handlers, count}
+use Rattle.py_templates.specs.inner.Compounds.{otherwise, tried_of}
+use Rattle.py_templates.specs.Whole.{bodies}
+use Rattle.py_templates.proofs.Stateds.{stated_do, stated_assign, stated_augment, stated_print, stated_pass, stated_break, stated_continue, stated_return, stated_raise, stated_del, stated_global, stated_assert, stated_import, stated_from, stated_if, stated_while, stated_for, inner_try, stated_def, stated_class}
 use Rattle.compiler_laws.proofs.Sane.{sane, sane_some}
 use Rattle.compiler_laws.proofs.Legal.{is_target_of, sane_defaults, target_some as fits_target, legal, legal_all}
 use Rattle.compiler_laws.proofs.LegalRows.{legal_arms, legal_clause, legal_handlers, clause_there, legal_if, legal_while, legal_for, legal_try, legal_def, legal_class}
-use Rattle.py_compile.proofs.ExprInduct.{Every, IfThere, every_of}
+use Rattle.py_templates.proofs.ExprInduct.{Every, IfThere, every_of}
 use Rattle.compiler_laws.proofs.StmtInduct.{OfArm, OfClause, OfHandler, Cases, stmt_induct}
 use Rattle.compiler_laws.proofs.OrdinaryEvents.{Ordinary, AllOrdinary, ordinary_nil, ordinary_cons, ordinary_join, bound_ordinary, only_ordinary, imported_ordinary, declares_ordinary, read_ordinary, target_ordinary, read_all_ordinary, target_all_ordinary, read_some_ordinary, target_some_ordinary, raises_ordinary}
 

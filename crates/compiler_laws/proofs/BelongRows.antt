@@ -11,10 +11,10 @@ use Rattle.py_code.specs.declared.program.Root.{Root}
 use Rattle.py_code.specs.declared.program.Code.{Code}
 use Rattle.py_code.specs.Typing.{HasNoSetup}
 use Rattle.py_code.specs.Right.{opens_body, is_body, HasCellAt, Belongs, names_of}
-use Rattle.py_compile.specs.Names.{number_in}
+use Rattle.py_templates.specs.Names.{number_in}
 use Rattle.py_base.specs.NameLists.{has}
-use Rattle.py_compile.proofs.ExprInduct.{Every}
-use Rattle.py_compile.proofs.Homes.{any_place}
+use Rattle.py_templates.proofs.ExprInduct.{Every}
+use Rattle.py_templates.proofs.Homes.{any_place}
 use Rattle.compiler_laws.proofs.Fit.{Fit}
 
 -- what holds of each instruction

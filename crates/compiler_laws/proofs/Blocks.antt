@@ -6,13 +6,13 @@ use Rattle.py_code.specs.declared.instr.Constant.TheVariants.{Root}
 use Rattle.py_code.specs.declared.instr.Instr.{Instr}
 use Rattle.py_code.specs.declared.instr.Instr.TheVariants.{Const, Pop, Dup, Rot2, Dup2, Rot3, LoadLocal, StoreLocal, LoadAttr, StoreAttr, LoadItem, StoreItem, DelAttr, DelItem, Not, InPlace, Jump, JumpFalse, Call, Return, PopTry, MakeRaised, Raise, PrintItem, PrintNewline}
 use Rattle.py_code.specs.Effects.{Limits, effect, On, Sh, floor_of, IsKnown, IsText}
-use Rattle.py_compile.specs.declared.around.Way.{Way}
-use Rattle.py_compile.specs.declared.around.Way.TheVariants as way
-use Rattle.py_compile.specs.declared.home.Home.{Home}
-use Rattle.py_compile.specs.Template.{Piece, Part, Op, Hidden, To, Here, Alone, Sub, template, row}
-use Rattle.py_compile.specs.Table.{E, A, load, store, nothing, one, assign, del_attr, del_item, add_name, add_attr, add_item, expression, print_one, print_line, import_one, raise_one, raise_two, assert_with, assert_alone, Around, InWhile, InFor, InTry, InClause, InFinally, way_out, return, raise_again}
+use Rattle.py_templates.specs.declared.way.Way.{Way}
+use Rattle.py_templates.specs.declared.way.Way.TheVariants as way
+use Rattle.py_templates.specs.declared.home.Home.{Home}
+use Rattle.py_templates.specs.Template.{Piece, Part, Op, Hidden, To, Here, Alone, Sub, template, row}
+use Rattle.py_templates.specs.Table.{E, A, load, store, nothing, one, assign, del_attr, del_item, add_name, add_attr, add_item, expression, print_one, print_line, import_one, raise_one, raise_two, assert_with, assert_alone, Around, InWhile, InFor, InTry, InClause, InFinally, way_out, return, raise_again}
 use Rattle.std.specs.Prelude.{All}
-use Rattle.py_compile.proofs.Typed.{Ring, Typed, Goes, PartsOk, all_stand, template_typed}
+use Rattle.py_templates.proofs.Typed.{Ring, Typed, Goes, PartsOk, all_stand, template_typed}
 use Rattle.compiler_laws.proofs.Ops.{sh, op, load_op, store_op, pop_op, pop_try_op, raise_op, return_op, jump_op, jump_false}
 use Rattle.compiler_laws.proofs.Values.{Each, Room, own_ring, Value, Store, Change, changes, same}
 use Rattle.compiler_laws.proofs.Surrounds.{AroundFits, low, Does, Leaves, block_does, in_loop, in_clause, SlotFits, slot_fits}

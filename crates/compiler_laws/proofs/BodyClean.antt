@@ -7,20 +7,20 @@ use Rattle.py_tree.specs.declared.expr.Expr.{Expr}
 use Rattle.py_tree.specs.declared.stmt.Stmt.{Stmt}
 use Rattle.py_tree.specs.declared.stmt.Param.{Param}
 use Rattle.py_tree.specs.declared.stmt.Stmt.TheOpen as open'
-use Rattle.py_compile.specs.declared.around.Way.TheVariants.{Break, Continue}
-use Rattle.py_compile.specs.Template.{Op, Hidden, To, Here, Sub, row}
-use Rattle.py_compile.specs.Table.{E, H, InTry, InFinally, def, class, way_out}
-use Rattle.py_compile.specs.Names.{Known, home, text}
+use Rattle.py_templates.specs.declared.way.Way.TheVariants.{Break, Continue}
+use Rattle.py_templates.specs.Template.{Op, Hidden, To, Here, Sub, row}
+use Rattle.py_templates.specs.Table.{E, H, InTry, InFinally, def, class, way_out}
+use Rattle.py_templates.specs.Names.{Known, home, text}
 use Rattle.py_base.specs.NameLists.{has}
 use Rattle.py_names.specs.Outline.{is_none}
-use Rattle.py_compile.specs.Expressions.{values, value_some}
-use Rattle.py_compile.specs.Uses.{Use, Inside, Uses, in_turn, none_used, all_in_turn, body_used, name_bound, read_some, read_defaults, stmt_uses}
-use Rattle.py_compile.specs.Statements.{Body, Stated, Armed, Claused, Handled, block, count, pieces, inners, handled, handled_count, handled_inner, tried, finally, inner_body, base, defaults, stated, all_stated}
+use Rattle.py_templates.specs.Expressions.{values, value_some}
+use Rattle.py_templates.specs.Uses.{Use, Inside, Uses, in_turn, none_used, all_in_turn, body_used, name_bound, read_some, read_defaults, stmt_uses}
+use Rattle.py_templates.specs.Statements.{Body, Stated, Armed, Claused, Handled, block, count, pieces, inners, handled, handled_count, handled_inner, tried, finally, inner_body, base, defaults, stated, all_stated}
 use Rattle.compiler_laws.proofs.EachFrom.{from_front, from_back, from_join}
 use Rattle.compiler_laws.proofs.Legal.{Legal, always, both, all_legal, has_clause, legal, legal_by_arm, legal_by_clause, legal_by_handler}
 use Rattle.compiler_laws.proofs.Legal as lg
 use Rattle.compiler_laws.proofs.Sane.{sane_some}
-use Rattle.py_compile.proofs.ExprInduct.{Every, every_front, every_back}
+use Rattle.py_templates.proofs.ExprInduct.{Every, every_front, every_back}
 use Rattle.compiler_laws.proofs.World.{known, inside, lim, HasNone}
 use Rattle.compiler_laws.proofs.Surrounds.{leaves_does}
 use Rattle.compiler_laws.proofs.Blocks.{nothing_does, jump_does}

@@ -7,13 +7,13 @@ use Rattle.py_tree.specs.declared.expr.Expr.{Expr}
 use Rattle.py_tree.specs.declared.stmt.Stmt.{Stmt}
 use Rattle.py_tree.specs.declared.stmt.Param.{Param}
 use Rattle.py_tree.specs.declared.stmt.Stmt.TheOpen as open'
-use Rattle.py_compile.specs.declared.around.Way.TheVariants.{Break, Continue}
-use Rattle.py_compile.specs.Table.{InTry, InFinally, def, class, way_out}
-use Rattle.py_compile.specs.Names.{Known, home}
-use Rattle.py_compile.specs.Expressions.{values}
-use Rattle.py_compile.specs.Uses.{Use, Inside, Uses, in_turn, none_used, all_in_turn, body_used, name_bound, read_some, read_defaults, stmt_uses}
-use Rattle.py_compile.specs.Statements.{Body, Stated, Armed, Claused, Handled, block, count, pieces, handled, handled_count, handled_inner, tried, finally, inner_body, base, default_or, defaults, stated, all_stated}
-use Rattle.py_compile.proofs.ExprInduct.{every_front, every_back}
+use Rattle.py_templates.specs.declared.way.Way.TheVariants.{Break, Continue}
+use Rattle.py_templates.specs.Table.{InTry, InFinally, def, class, way_out}
+use Rattle.py_templates.specs.Names.{Known, home}
+use Rattle.py_templates.specs.Expressions.{values}
+use Rattle.py_templates.specs.Uses.{Use, Inside, Uses, in_turn, none_used, all_in_turn, body_used, name_bound, read_some, read_defaults, stmt_uses}
+use Rattle.py_templates.specs.Statements.{Body, Stated, Armed, Claused, Handled, block, count, pieces, handled, handled_count, handled_inner, tried, finally, inner_body, base, default_or, defaults, stated, all_stated}
+use Rattle.py_templates.proofs.ExprInduct.{every_front, every_back}
 use Rattle.compiler_laws.proofs.Sane.{sane_some}
 use Rattle.compiler_laws.proofs.Legal.{Legal, always, both, all_legal, has_clause, sane_defaults, legal, legal_by_arm, legal_by_clause, legal_by_handler}
 use Rattle.compiler_laws.proofs.Surrounds.{block_does, in_loop, in_clause, leaves_does}
@@ -24,7 +24,7 @@ use Rattle.compiler_laws.proofs.World.{known, inside, lim, Covers, HasNone, Stan
 use Rattle.compiler_laws.proofs.FoldInduct.{Related, Nil, Cons, related_of, clause_stands, code_by_arm, code_by_clause, code_by_handler, uses_by_arm, uses_by_clause, uses_by_handler, ClauseWith, HandlerWith, LayerWith, IsLayer, every_stmts}
 use Rattle.compiler_laws.proofs.UsesInTurn.{three_uses, four_uses}
 use Rattle.compiler_laws.proofs.StmtSimple.{homed_is, home_here, do_here, assign_here, augment_here, print_here, return_here, raise_here, del_here, assert_here, import_here, from_here, defaults_here, base_here}
-use Rattle.py_compile.proofs.Lengths.{values_length}
+use Rattle.py_templates.proofs.Lengths.{values_length}
 use Rattle.compiler_laws.proofs.StmtTyped.{Rel, ArmRel, HandlerRel, still_rel, none_rel, rels_count, rels_long, rels_good, rels_inner, block_rel, handlers_count, handlers_long, handlers_good, handlers_inner, arm_rel, handler_rel, if_rel, while_rel, for_rel}
 
 module _ (locals : ℕ → List (List ℕ)) (texts cells : List (List ℕ)) (keys : ℕ → List (List (List ℕ))) (params : List ℕ)

@@ -15,19 +15,19 @@ use Rattle.py_tree.specs.declared.expr.Level.TheVariants as level
 use Rattle.py_tree.specs.declared.expr.Sign.{Sign}
 use Rattle.py_tree.specs.declared.expr.Expr.TheVariants as e
 use Rattle.py_tree.specs.declared.expr.Trailer.TheVariants as t
-use Rattle.py_compile.specs.declared.home.Home.TheVariants.{Slot, Body}
-use Rattle.py_compile.specs.Template.{Frame, Piece, Part, Op, Hidden, To, Here, Alone, Sub, part_size, part_slots, part_code, code_of, template, row, labels_from, own_slot, label_at, slot_at}
-use Rattle.py_compile.specs.Table.{E, F, N, constant, name, one, operators, all_kept, to_all, load, store, del}
-use Rattle.py_compile.specs.Names.{Known, text, home_at, home, find_name, key_list}
+use Rattle.py_templates.specs.declared.home.Home.TheVariants.{Slot, Body}
+use Rattle.py_templates.specs.Template.{Frame, Piece, Part, Op, Hidden, To, Here, Alone, Sub, part_size, part_slots, part_code, code_of, template, row, labels_from, own_slot, label_at, slot_at}
+use Rattle.py_templates.specs.Table.{E, F, N, constant, name, one, operators, all_kept, to_all, load, store, del}
+use Rattle.py_templates.specs.Names.{Known, text, home_at, home, find_name, key_list}
 use Rattle.py_base.specs.NameLists.{has}
 use Rattle.py_names.specs.Outline.{is_none}
-use Rattle.py_compile.specs.Expressions.{sign_number, Place, Spread, NoPlace, Trailed, Attr, Index, Cut, Called, store_at, del_at, add_at, front_of, last_link, key_names, firsts, last_operand, betweens, comparison, links, chain, behind, trailed, place_by, coded, coded_trailer, value, values, all_stored, all_deleted, linked, pairs, key_values, trailers, value_some}
-use Rattle.py_compile.specs.Uses.{Use, Text, Global, Keys, Inside, own_read, name_read, used_trailer, read, target, read_all, target_all, read_some}
-use Rattle.py_compile.proofs.Coded as rows
-use Rattle.py_compile.specs.inner.Tallies.{read_links, read_pairs, read_named, read_trailers}
-use Rattle.py_compile.proofs.Used as uses
-use Rattle.py_compile.proofs.ExprInduct.{Every, IfThere, OfLink, OfNamed, OfPair, expr_induct, every_front, every_back, every_join}
-use Rattle.py_compile.proofs.Homes.{find_some}
+use Rattle.py_templates.specs.Expressions.{sign_number, Place, Spread, NoPlace, Trailed, Attr, Index, Cut, Called, store_at, del_at, add_at, front_of, last_link, key_names, firsts, last_operand, betweens, comparison, links, chain, behind, trailed, place_by, coded, coded_trailer, value, values, all_stored, all_deleted, linked, pairs, key_values, trailers, value_some}
+use Rattle.py_templates.specs.Uses.{Use, Text, Global, Keys, Inside, own_read, name_read, used_trailer, read, target, read_all, target_all, read_some}
+use Rattle.py_templates.proofs.Coded as rows
+use Rattle.py_templates.specs.inner.Reads.{read_links, read_pairs, read_named, read_trailers}
+use Rattle.py_templates.proofs.Used as uses
+use Rattle.py_templates.proofs.ExprInduct.{Every, IfThere, OfLink, OfNamed, OfPair, expr_induct, every_front, every_back, every_join}
+use Rattle.py_templates.proofs.Homes.{find_some}
 use Rattle.compiler_laws.proofs.Fit.{Fit, NoteOk}
 
 module _ (ok : ℕ → Type 0) (flags : ℕ → Bool) (z : Bool) where

@@ -7,7 +7,7 @@ use Rattle.py_names.specs.declared.event.Event.{Event}
 use Rattle.py_names.specs.declared.event.Event.TheVariants.{Enter, Leave, Takes, Uses, Binds, Declares, Misplaced, Doubled}
 use Rattle.py_names.specs.Outline.{is_none, label, only_where, outline}
 use Rattle.py_names.specs.Scopes.{Names, inside_after, bodies_after, placed, body, refused, first_of, first_fault, fault}
-use Rattle.py_compile.proofs.ExprInduct.{Every, every_front, every_back}
+use Rattle.py_templates.proofs.ExprInduct.{Every, every_front, every_back}
 
 -- what each event is
 abbrev pub Clear : Event → Type 0

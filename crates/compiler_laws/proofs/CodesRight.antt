@@ -7,12 +7,12 @@ use Rattle.std.proofs.lemmas.List.{length-map, map-append, length-replicate}
 use Rattle.py_code.specs.declared.program.Code.{Code}
 use Rattle.py_code.specs.Right.{first_place}
 use Rattle.py_tree.specs.declared.stmt.Stmt.{Stmt}
-use Rattle.py_compile.specs.Table.{body_code, module_code}
-use Rattle.py_compile.specs.Names.{same_names}
-use Rattle.py_compile.specs.Uses.{Use, Text, Global, Keys, with_keys, keys_from, module_uses}
-use Rattle.py_compile.specs.Statements.{Body, stated_block}
+use Rattle.py_templates.specs.Table.{body_code, module_code}
+use Rattle.py_templates.specs.Names.{same_names}
+use Rattle.py_templates.specs.Uses.{Use, Text, Global, Keys, with_keys, keys_from, module_uses}
+use Rattle.py_templates.specs.Statements.{Body, stated_block}
 use Rattle.compiler_laws.proofs.Legal.{legal_all}
-use Rattle.py_compile.specs.Whole as whole
+use Rattle.py_templates.specs.Whole as whole
 use Rattle.compiler_laws.proofs.Surrounds.{Does}
 use Rattle.compiler_laws.proofs.Program.{IsWhole, body_right, module_right}
 use Rattle.compiler_laws.proofs.World.{known, lim, Wide, HasNone, Slotted, Standing, BodiesOk}

@@ -3,10 +3,10 @@ use Rattle.std.proofs.Common.{◌≡◌, ℕ, ◌+◌, ◌<◌, ◌≤◌, ◌^�
 use Rattle.std.specs.Prelude.{IsTrue}
 use Rattle.py_code.specs.declared.instr.Instr.TheVariants.{LoadLocal, StoreLocal, Jump, JumpFalse, Iter, Next, MakeFunction, ClassBody, Try, PopTry, ExcMatch, Raise}
 use Rattle.py_code.specs.Effects.{Limits, floor_of, IsKnown}
-use Rattle.py_compile.specs.declared.home.Home.{Home}
-use Rattle.py_compile.specs.Template.{Piece, Part, Op, Hidden, To, Here, Alone, Sub, size_of, template, row}
-use Rattle.py_compile.specs.Table.{E, A, H, M, B, store, def, class, arm, all_arms, while, for, try_except, clause_bare, clause_test, clause_target, try_finally, Around, InWhile, InFor, InTry, InClause, InFinally}
-use Rattle.py_compile.proofs.Typed.{Ring, ring_at, Typed, Goes, PartsOk, all_stand, template_typed}
+use Rattle.py_templates.specs.declared.home.Home.{Home}
+use Rattle.py_templates.specs.Template.{Piece, Part, Op, Hidden, To, Here, Alone, Sub, size_of, template, row}
+use Rattle.py_templates.specs.Table.{E, A, H, M, B, store, def, class, arm, all_arms, while, for, try_except, clause_bare, clause_test, clause_target, try_finally, Around, InWhile, InFor, InTry, InClause, InFinally}
+use Rattle.py_templates.proofs.Typed.{Ring, ring_at, Typed, Goes, PartsOk, all_stand, template_typed}
 use Rattle.compiler_laws.proofs.Ops.{sh, op, load_op, store_op, pop_try_op, raise_op, jump_op, jump_false, next_op, try_op}
 use Rattle.compiler_laws.proofs.Values.{Each, Room, own_ring, Value, Store, same, values, many_values}
 use Rattle.compiler_laws.proofs.Surrounds.{AroundFits, low, Does, Clause}

@@ -1,6 +1,6 @@
 -- What holds of bodies one after another, each with its number: of the front, of the rest, of two lists joined.
 use Rattle.std.proofs.Common.{◌≡◌, ℕ, ◌+◌, List, [], ◌∷◌, ◌++◌, subst, arith, length, refl}
-use Rattle.py_compile.specs.Statements.{Body}
+use Rattle.py_templates.specs.Statements.{Body}
 
 module _ (P : ℕ → Body → Type 0) where
   -- of these bodies, where the first has number f

@@ -23,25 +23,25 @@ use Rattle.py_tree.specs.declared.expr.Trailer.TheVariants as t
 use Rattle.py_tree.specs.declared.form.Form.TheVariants.{Cut as CutForm, Plain}
 use Rattle.py_tree.specs.Form.{form, form_trailer, is_target, is_single, all_targets, many, last_form}
 use Rattle.py_tree.proofs.Forms as forms
-use Rattle.py_compile.specs.declared.home.Home.{Home}
-use Rattle.py_compile.specs.Template.{Piece, row}
-use Rattle.py_compile.specs.Table.{Around, constant, name, built, to_all, load, store, del}
-use Rattle.py_compile.specs.Names.{Known, text, home, key_list}
+use Rattle.py_templates.specs.declared.home.Home.{Home}
+use Rattle.py_templates.specs.Template.{Piece, row}
+use Rattle.py_templates.specs.Table.{Around, constant, name, built, to_all, load, store, del}
+use Rattle.py_templates.specs.Names.{Known, text, home, key_list}
 use Rattle.py_names.specs.Outline.{is_none}
-use Rattle.py_compile.specs.Expressions.{operator, sign_number, Place, AtName, AtAttr, AtItem, Spread, Trailed, Attr, Index, Cut, Called, store_at, del_at, add_at, front_of, last_link, key_names, firsts, last_operand, logical, betweens, comparison, links, operated, chain, behind, trailed, last_place, place_by, place_of_trail, coded, coded_trailer, value, values, all_stored, all_deleted, linked, pairs, key_values, trailers, value_some}
-use Rattle.py_compile.specs.Uses.{Use, Text, Keys, Inside, name_read, name_bound, used_trailer, read, target, read_all, target_all, read_some}
+use Rattle.py_templates.specs.Expressions.{operator, sign_number, Place, AtName, AtAttr, AtItem, Spread, Trailed, Attr, Index, Cut, Called, store_at, del_at, add_at, front_of, last_link, key_names, firsts, last_operand, logical, betweens, comparison, links, operated, chain, behind, trailed, last_place, place_by, place_of_trail, coded, coded_trailer, value, values, all_stored, all_deleted, linked, pairs, key_values, trailers, value_some}
+use Rattle.py_templates.specs.Uses.{Use, Text, Keys, Inside, name_read, name_bound, used_trailer, read, target, read_all, target_all, read_some}
 use Rattle.compiler_laws.proofs.Sane.{fits_level, sane, sane_trailer, all_sane, sane_some, sane_links, sane_named, sane_pairs, sane_trailers}
 use Rattle.compiler_laws.proofs.Ops.{keep_false, keep_true}
 use Rattle.compiler_laws.proofs.Values.{Each, Value, Store, Change, one_is, one_value_is, two_values_is, link_is, operators_is, IsKeep, Kept, kept_is, all_kept_is, Between, between_is, chained_is, conditional_is, trail_is, attribute_is, index_is, slice_is, built_is, call_is, method_call_is, to_attr_is, to_item_is, to_all_is, one_takes, Pair as IsPair, pair_is, dictionary_is}
 use Rattle.compiler_laws.proofs.Surrounds.{Does, block_does}
 use Rattle.compiler_laws.proofs.Blocks.{one_does, del_attr_does, del_item_does, add_name_does, add_attr_does, add_item_does}
-use Rattle.py_compile.proofs.Coded as rows
-use Rattle.py_compile.specs.inner.Tallies.{read_links, read_pairs, read_named, read_trailers}
-use Rattle.py_compile.proofs.Used as uses
+use Rattle.py_templates.proofs.Coded as rows
+use Rattle.py_templates.specs.inner.Reads.{read_links, read_pairs, read_named, read_trailers}
+use Rattle.py_templates.proofs.Used as uses
 use Rattle.compiler_laws.proofs.SaneRows as sanes
-use Rattle.py_compile.proofs.ExprInduct.{Every, IfThere, Arms, OfLink, OfNamed, OfPair, expr_induct, every_front, every_back}
-use Rattle.py_compile.proofs.Homes.{IsHomed, KeysFit, Covered, Fits, home_bound, read_bound}
-use Rattle.py_compile.proofs.Lengths.{values_length, pairs_length, named_length}
+use Rattle.py_templates.proofs.ExprInduct.{Every, IfThere, Arms, OfLink, OfNamed, OfPair, expr_induct, every_front, every_back}
+use Rattle.py_templates.proofs.Homes.{IsHomed, KeysFit, Covered, Fits, home_bound, read_bound}
+use Rattle.py_templates.proofs.Lengths.{values_length, pairs_length, named_length}
 use Rattle.compiler_laws.proofs.SmallNumbers.{operator_small, sign_small}
 use Rattle.compiler_laws.proofs.SingleTargets.{single_target}
 

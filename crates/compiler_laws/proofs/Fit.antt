@@ -2,7 +2,7 @@
 use Rattle.std.proofs.Common.{◌≡◌, ℕ, ◌<◌, List, Bool, true, false}
 use Rattle.py_code.specs.declared.instr.Instr.{Instr}
 use Rattle.py_code.specs.declared.instr.Instr.TheVariants.{Setup, LoadName, StoreName, DelName, MakeFunction, ClassBody}
-use Rattle.py_compile.specs.Uses.{Use, Text, Global, Keys}
+use Rattle.py_templates.specs.Uses.{Use, Text, Global, Keys}
 
 -- what may stand in the code of a body that is a class's or not: by which names have cells, and which codes are
 -- classes' bodies

@@ -8,10 +8,10 @@ use Rattle.py_tree.specs.declared.stmt.Clause.{Clause as ClauseTree, roll-Clause
 use Rattle.py_tree.specs.declared.stmt.Handler.{Handler as HandlerTree, roll-Handler}
 use Rattle.py_tree.specs.declared.stmt.Stmt.TheOpen as open'
 use Rattle.py_tree.specs.declared.stmt.Stmt.TheFolds.{fold-Arm, fold-Clause, fold-Handler, fold-roll-Stmt, fold-roll-Arm, fold-roll-Clause, fold-roll-Handler, ind-Stmt, map-Stmt, map-Arm, map-Clause, map-Handler}
-use Rattle.py_compile.specs.Statements.{Stated, Armed, Claused, Handled, block, stmt_step, arm_step, clause_step, handler_step, stated, all_stated}
-use Rattle.py_compile.specs.Uses.{Uses, quiet, in_turn, all_in_turn, read, read_some, target_some, stmt_uses}
-use Rattle.py_compile.specs.Uses as u
-use Rattle.py_compile.proofs.ExprInduct.{Every}
+use Rattle.py_templates.specs.Statements.{Stated, Armed, Claused, Handled, block, stmt_step, arm_step, clause_step, handler_step, stated, all_stated}
+use Rattle.py_templates.specs.Uses.{Uses, quiet, in_turn, all_in_turn, read, read_some, target_some, stmt_uses}
+use Rattle.py_templates.specs.Uses as u
+use Rattle.py_templates.proofs.ExprInduct.{Every}
 use Rattle.compiler_laws.proofs.Legal.{Legal, always, both, all_legal, has_clause, legal, legal_by_arm, legal_by_clause, legal_by_handler}
 use Rattle.compiler_laws.proofs.Legal as lg
 use Rattle.compiler_laws.proofs.Sane.{sane, sane_some}

@@ -14,7 +14,7 @@ use Rattle.py_tree.specs.declared.expr.Operator.TheVariants as op
 use Rattle.py_grammar.specs.Words.{level_of}
 use Rattle.py_grammar.specs.Grammar as G
 use Rattle.py_grammar.specs.Grammar.{Marks, Is, Tests, Commas, Exprs, Pairs, Links, Trailers, Trails, Maybe, Args}
-use Rattle.py_compile.specs.Expressions.{operator}
+use Rattle.py_templates.specs.Expressions.{operator}
 use Rattle.compiler_laws.proofs.Sane.{fits_level, sane, sane_trailer, all_sane, sane_some, sane_links, sane_named, sane_pairs, sane_trailers}
 use Rattle.compiler_laws.proofs.SaneRows.{sane_name, sane_int, sane_str, sane_group, sane_tuple, sane_list, sane_dict, sane_trail, sane_power, sane_unary, sane_chain, sane_not, sane_choice, sane_attribute, sane_index, sane_slice, sane_call}
 

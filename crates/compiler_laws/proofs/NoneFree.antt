@@ -13,8 +13,8 @@ use Rattle.py_names.specs.Outline.{is_none, label, repeated, read_some, paramete
 use Rattle.py_names.specs.Scopes.{placed, inside_after, bodies_after, is_first, said_in, binding, is_module, kind_of, scope_of, body, fault}
 use Rattle.py_names.specs.ScopeLaws.{names_it, binds, declares}
 use Rattle.py_names.proofs.ScopeLemmas.{local_law}
-use Rattle.py_compile.specs.Statements.{Body}
-use Rattle.py_compile.proofs.ExprInduct.{Every, every_join}
+use Rattle.py_templates.specs.Statements.{Body}
+use Rattle.py_templates.proofs.ExprInduct.{Every, every_join}
 use Rattle.compiler_laws.proofs.Legal.{legal_all}
 use Rattle.compiler_laws.proofs.Clear.{Clears, clear_front, clear_back, label_clear, outline_clear}
 use Rattle.compiler_laws.proofs.OrdinaryEvents.{Ordinary, parameters_ordinary}

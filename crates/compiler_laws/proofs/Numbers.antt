@@ -9,11 +9,11 @@ use Rattle.std.proofs.lemmas.Bool.{ltb-true, or_left, or_right, eq-eqb}
 use Rattle.std.proofs.lemmas.List.{get_or-map, length-map}
 use Rattle.std.proofs.lemmas.List.Folds.{list_any-append}
 use Rattle.std.proofs.lemmas.Slice.Eq.{bytes_eq-Decides}
-use Rattle.py_compile.specs.Names.{number_in, text, same_names, list_number}
+use Rattle.py_templates.specs.Names.{number_in, text, same_names, list_number}
 use Rattle.py_base.specs.NameLists.{has, with_name}
-use Rattle.py_compile.specs.Uses.{Use, Text, Global, Keys, with_keys, texts_from, cells_from, keys_from}
-use Rattle.py_compile.proofs.ExprInduct.{Every}
-use Rattle.py_compile.proofs.Homes.{any_place, KeysFit}
+use Rattle.py_templates.specs.Uses.{Use, Text, Global, Keys, with_keys, texts_from, cells_from, keys_from}
+use Rattle.py_templates.proofs.ExprInduct.{Every}
+use Rattle.py_templates.proofs.Homes.{any_place, KeysFit}
 use Rattle.compiler_laws.proofs.World.{known, inside, lim, Covers, Wide}
 
 -- a name that is in a list has a number below its length

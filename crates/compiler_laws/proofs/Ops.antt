@@ -3,7 +3,7 @@ use Rattle.std.proofs.Common.{◌≡◌, ℕ, ◌+◌, ◌-◌, ◌<◌, ◌≤�
 use Rattle.py_code.specs.declared.instr.Instr.{Instr}
 use Rattle.py_code.specs.declared.instr.Instr.TheVariants.{LoadLocal, StoreLocal, Pop, Jump, JumpFalse, KeepFalse, KeepTrue, Next, Return, Try, PopTry, Raise}
 use Rattle.py_code.specs.Effects.{Limits, effect, On, Fork, Sh, there, after, target_of, floor_of, blocks_after, HasBlock, IsKnown}
-use Rattle.py_compile.proofs.Typed.{Goes, Jumps}
+use Rattle.py_templates.proofs.Typed.{Goes, Jumps}
 
 abbrev pub sh : ℕ → List ℕ → Sh
 sh h bs = record { height = h; blocks = bs }

@@ -15,7 +15,7 @@ use Rattle.py_names.specs.declared.statement.Where.{Where}
 use Rattle.py_base.specs.NameLists.{has, with_name}
 use Rattle.py_names.specs.Outline.{is_none, used_name, bound_name, declared_name, declared, label, repeated, Said, plain, said, said_trailer, read, target, read_all, target_all, read_some, target_some, read_links, read_pairs, read_trailers, read_keywords, only_where, imported_name, imported, parameters, raises}
 use Rattle.py_names.proofs.Said.{said_name, said_int, said_str, said_group, said_tuple, said_list, said_dict, said_trail, said_power, said_unary, said_chain, said_not, said_choice, said_attribute, said_index, said_slice, said_call}
-use Rattle.py_compile.proofs.ExprInduct.{Every, IfThere, Arms, OfLink, OfNamed, OfPair, expr_induct, every_join, every_of}
+use Rattle.py_templates.proofs.ExprInduct.{Every, IfThere, Arms, OfLink, OfNamed, OfPair, expr_induct, every_join, every_of}
 
 -- an event that begins no body, takes no parameter and binds no `None`
 abbrev pub Ordinary : Event → Type 0

@@ -24,9 +24,9 @@ use Rattle.py_names.specs.Scopes.{Names, inside_after, bodies_after, placed, bod
 use Rattle.py_names.specs.ScopeLaws.{names_it, binds, declares}
 use Rattle.py_names.specs.Resolves.{Resolves}
 use Rattle.py_names.proofs.ScopeLemmas.{local_law}
-use Rattle.py_compile.specs.Statements.{Body}
-use Rattle.py_compile.specs.Whole.{bodies, slots_named}
-use Rattle.py_compile.specs.Compiles.{bound_in}
+use Rattle.py_templates.specs.Statements.{Body}
+use Rattle.py_templates.specs.Whole.{bodies, slots_named}
+use Rattle.py_templates.specs.Compiles.{bound_in}
 use Rattle.compiler_laws.proofs.Legal.{legal_all}
 use Rattle.compiler_laws.proofs.Clear.{Clears, clear_front, first_parts, outline_clear}
 use Rattle.compiler_laws.proofs.OrdinaryEvents.{Ordinary, AllOrdinary, parameters_ordinary}

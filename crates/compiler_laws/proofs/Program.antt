@@ -10,9 +10,9 @@ use Rattle.py_code.specs.declared.instr.Instr.{Instr}
 use Rattle.py_code.specs.declared.instr.Instr.TheVariants.{Setup, Const, Return}
 use Rattle.py_code.specs.Effects.{Limits, Sh}
 use Rattle.py_code.specs.Typing.{shape_at, start, RightAt, IsRight, AllForward}
-use Rattle.py_compile.specs.Template.{Piece, Op, Sub, template}
-use Rattle.py_compile.specs.Table.{body_code, module_code}
-use Rattle.py_compile.proofs.Typed.{HasCode, HasShapes, code_front, code_back, shapes_front, shapes_back, EnvFits, AllRight, Typed, op_right, none_right, template_typed}
+use Rattle.py_templates.specs.Template.{Piece, Op, Sub, template}
+use Rattle.py_templates.specs.Table.{body_code, module_code}
+use Rattle.py_templates.proofs.Typed.{HasCode, HasShapes, code_front, code_back, shapes_front, shapes_back, EnvFits, AllRight, Typed, op_right, none_right, template_typed}
 use Rattle.compiler_laws.proofs.Ops.{sh, op}
 use Rattle.compiler_laws.proofs.Surrounds.{Does}
 

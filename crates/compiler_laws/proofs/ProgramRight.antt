@@ -11,9 +11,9 @@ use Rattle.py_base.specs.NameLists.{has}
 use Rattle.py_names.specs.Outline.{is_none, outline}
 use Rattle.py_names.specs.Resolves.{Resolves}
 use Rattle.py_names.specs.Scopes.{bodies}
-use Rattle.py_compile.specs.Compiles.{Compiles, bound_in}
-use Rattle.py_compile.specs.Resolved.{IsResolved}
-use Rattle.py_compile.specs.Whole.{locals_of, program_of, too_large_in}
+use Rattle.py_templates.specs.Compiles.{Compiles, bound_in}
+use Rattle.py_templates.specs.Resolved.{IsResolved}
+use Rattle.py_templates.specs.Whole.{locals_of, program_of, too_large_in}
 use Rattle.compiler_laws.proofs.Assembled.{program_right}
 use Rattle.compiler_laws.proofs.Legal.{legal_all}
 use Rattle.compiler_laws.proofs.LegalStmts.{legal_text}

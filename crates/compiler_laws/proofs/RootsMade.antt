@@ -9,10 +9,10 @@ use Rattle.std.proofs.lemmas.List.Folds.{list_any-append}
 use Rattle.py_code.specs.Right.{HasRoots, differ, own_name, main_name, roots_of}
 use Rattle.py_code.proofs.RightRows.{texts_told, names_told}
 use Rattle.py_tree.specs.declared.stmt.Stmt.{Stmt}
-use Rattle.py_compile.specs.Names.{main_texts}
-use Rattle.py_compile.specs.Uses.{Use, Text, Global, Keys, cells_from}
+use Rattle.py_templates.specs.Names.{main_texts}
+use Rattle.py_templates.specs.Uses.{Use, Text, Global, Keys, cells_from}
 use Rattle.py_base.specs.NameLists.{has, with_name}
-use Rattle.py_compile.specs.Whole as whole
+use Rattle.py_templates.specs.Whole as whole
 
 -- names that are put in once differ
 differ_more : (before xs : List (List ℕ)) (x : List ℕ) → differ before xs ≡ true → has x (before ++ xs) ≡ false →

@@ -9,7 +9,7 @@ use Rattle.py_tree.specs.declared.expr.Named.{Named}
 use Rattle.py_tree.specs.declared.expr.Pair.{Pair}
 use Rattle.py_tree.specs.declared.expr.Expr.TheOpen as open'
 use Rattle.py_tree.specs.declared.expr.Expr.TheFolds.{fold-Expr, fold-Trailer}
-use Rattle.py_compile.specs.Expressions.{operator}
+use Rattle.py_templates.specs.Expressions.{operator}
 
 abbrev pub all_true : List Bool → Bool
 all_true [] = true

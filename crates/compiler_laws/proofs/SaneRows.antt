@@ -11,7 +11,7 @@ use Rattle.py_tree.specs.declared.expr.Expr.TheVariants as e
 use Rattle.py_tree.specs.declared.expr.Trailer.TheVariants as t
 use Rattle.py_tree.specs.declared.expr.Expr.TheOpen as open'
 use Rattle.py_tree.specs.declared.expr.Expr.TheFolds.{fold-roll-Expr, fold-roll-Trailer, fold-Link, fold-Named, fold-Pair, fold_out-Link, fold_out-Named, fold_out-Pair}
-use Rattle.py_compile.specs.Expressions.{operator}
+use Rattle.py_templates.specs.Expressions.{operator}
 use Rattle.compiler_laws.proofs.Sane.{all_true, fits_level, fit_level, expr_step, trailer_step, link_step, named_step, pair_step, sane, sane_trailer, all_sane, sane_some, sane_links, sane_named, sane_pairs, sane_trailers}
 
 link : Link → ℕ × Bool

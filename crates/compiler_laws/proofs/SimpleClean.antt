@@ -7,17 +7,17 @@ use Rattle.py_tree.specs.declared.expr.Expr.{Expr}
 use Rattle.py_tree.specs.declared.expr.Operator.{Operator}
 use Rattle.py_tree.specs.declared.stmt.Param.{Param}
 use Rattle.py_tree.specs.declared.stmt.Imported.{Imported}
-use Rattle.py_compile.specs.declared.around.Way.{Way}
-use Rattle.py_compile.specs.declared.around.Way.TheVariants.{Break, Continue, Out}
-use Rattle.py_compile.specs.Template.{Piece, Op, Hidden, To, Here, Alone, Sub, template, row}
-use Rattle.py_compile.specs.Table.{A, E, M, Around, InWhile, InFor, InTry, InClause, InFinally, def, class, print_one, import_one, way_out, return, raise_again, store}
-use Rattle.py_compile.specs.Names.{Known, home, text, library, member}
+use Rattle.py_templates.specs.declared.way.Way.{Way}
+use Rattle.py_templates.specs.declared.way.Way.TheVariants.{Break, Continue, Out}
+use Rattle.py_templates.specs.Template.{Piece, Op, Hidden, To, Here, Alone, Sub, template, row}
+use Rattle.py_templates.specs.Table.{A, E, M, Around, InWhile, InFor, InTry, InClause, InFinally, def, class, print_one, import_one, way_out, return, raise_again, store}
+use Rattle.py_templates.specs.Names.{Known, home, text, library, member}
 use Rattle.py_base.specs.NameLists.{has}
 use Rattle.py_names.specs.Outline.{is_none}
-use Rattle.py_compile.specs.Expressions.{coded, add_at, operator, value, values, value_some, stored, all_stored, all_deleted}
-use Rattle.py_compile.specs.Uses.{Use, Inside, read, target, read_all, target_all, read_some, target_some, read_defaults}
-use Rattle.py_compile.specs.Statements.{clause, base, default_or, defaults, stores_before, last_target, assigned, printed, raised, asserted, imported, taken_from, deletion, bound_name}
-use Rattle.py_compile.proofs.ExprInduct.{Every, every_front, every_back, every_join}
+use Rattle.py_templates.specs.Expressions.{coded, add_at, operator, value, values, value_some, stored, all_stored, all_deleted}
+use Rattle.py_templates.specs.Uses.{Use, Inside, read, target, read_all, target_all, read_some, target_some, read_defaults}
+use Rattle.py_templates.specs.Statements.{clause, base, default_or, defaults, stores_before, last_target, assigned, printed, raised, asserted, imported, taken_from, deletion, bound_name}
+use Rattle.py_templates.proofs.ExprInduct.{Every, every_front, every_back, every_join}
 use Rattle.compiler_laws.proofs.Fit.{Fit, NoteOk}
 use Rattle.compiler_laws.proofs.Clean.{IsClean, template_clean, row_clean, one_clean, store_clean, expr_clean, exprs_clean, if_clean, values_clean, stores_clean, deletes_clean, some_clean}
 

@@ -9,17 +9,17 @@ use Rattle.py_code.specs.Right.{opens_body}
 use Rattle.py_tree.specs.declared.expr.Expr.{Expr}
 use Rattle.py_tree.specs.declared.stmt.Stmt.{Stmt}
 use Rattle.py_tree.specs.declared.stmt.Stmt.TheOpen as open'
-use Rattle.py_compile.specs.Template.{Frame, Piece, Part, Op, Hidden, To, Here, Alone, Sub, part_size, part_slots, part_code, code_of, template, row, labels_from, own_slot}
-use Rattle.py_compile.specs.Table.{A, B, E, H, M, store, Around, InWhile, InFor, InTry, InClause, InFinally, arm, all_arms, while, for, try_except, try_finally, class, clause_bare, clause_test, clause_target}
-use Rattle.py_compile.specs.declared.home.Home.{Home}
-use Rattle.py_compile.specs.Expressions.{value, stored}
-use Rattle.py_compile.specs.Names.{Known, home}
-use Rattle.py_compile.specs.Statements.{Body, Stated, Armed, Claused, Handled, still, block, count, pieces, inners, armed, armed_count, armed_inner, handled, handled_count, handled_inner, clause, tried, finally, inner_body, base, stated, all_stated}
-use Rattle.py_compile.specs.Uses.{Uses, stmt_uses}
+use Rattle.py_templates.specs.Template.{Frame, Piece, Part, Op, Hidden, To, Here, Alone, Sub, part_size, part_slots, part_code, code_of, template, row, labels_from, own_slot}
+use Rattle.py_templates.specs.Table.{A, B, E, H, M, store, Around, InWhile, InFor, InTry, InClause, InFinally, arm, all_arms, while, for, try_except, try_finally, class, clause_bare, clause_test, clause_target}
+use Rattle.py_templates.specs.declared.home.Home.{Home}
+use Rattle.py_templates.specs.Expressions.{value, stored}
+use Rattle.py_templates.specs.Names.{Known, home}
+use Rattle.py_templates.specs.Statements.{Body, Stated, Armed, Claused, Handled, still, block, count, pieces, inners, armed, armed_count, armed_inner, handled, handled_count, handled_inner, clause, tried, finally, inner_body, base, stated, all_stated}
+use Rattle.py_templates.specs.Uses.{Uses, stmt_uses}
 use Rattle.compiler_laws.proofs.EachFrom.{EachFrom, from_front, from_back, from_join}
 use Rattle.compiler_laws.proofs.Legal.{Legal, legal, legal_by_arm, legal_by_handler}
 use Rattle.compiler_laws.proofs.FoldInduct.{related_every, related_of, code_by_arm, code_by_clause, code_by_handler, uses_by_arm, uses_by_handler, ClauseWith, LayerWith, IsLayer, every_stmts}
-use Rattle.py_compile.proofs.ExprInduct.{Every}
+use Rattle.py_templates.proofs.ExprInduct.{Every}
 
 -- a CLASS_BODY of that code is among these
 abbrev pub Opens : List Instr → ℕ → Type 0

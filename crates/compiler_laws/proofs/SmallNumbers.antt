@@ -4,7 +4,7 @@ use Rattle.py_tree.specs.declared.expr.Operator.{Operator}
 use Rattle.py_tree.specs.declared.expr.Operator.TheVariants as op
 use Rattle.py_tree.specs.declared.expr.Sign.{Sign}
 use Rattle.py_tree.specs.declared.expr.Sign.TheVariants as sign
-use Rattle.py_compile.specs.Expressions.{operator, sign_number}
+use Rattle.py_templates.specs.Expressions.{operator, sign_number}
 
 pub operator_small : (o : Operator) → operator o < 12
 operator_small op.Or = omega arith

@@ -4,19 +4,19 @@ use Rattle.std.proofs.lemmas.Bool.{and_parts}
 use Rattle.py_code.specs.declared.instr.Instr.TheVariants.{Jump, JumpFalse, Iter, Next}
 use Rattle.py_code.specs.Effects.{Limits}
 use Rattle.py_tree.specs.declared.expr.Expr.{Expr}
-use Rattle.py_compile.specs.Template.{Piece, Op, To, Here, Alone, Sub, row}
-use Rattle.py_compile.specs.Table.{A, B, E, M, Around, InWhile, InFor, InClause, all_arms, while, for}
-use Rattle.py_compile.specs.Names.{Known, text}
+use Rattle.py_templates.specs.Template.{Piece, Op, To, Here, Alone, Sub, row}
+use Rattle.py_templates.specs.Table.{A, B, E, M, Around, InWhile, InFor, InClause, all_arms, while, for}
+use Rattle.py_templates.specs.Names.{Known, text}
 use Rattle.py_base.specs.NameLists.{has}
 use Rattle.py_names.specs.Outline.{is_none}
-use Rattle.py_compile.specs.Expressions.{value, stored}
-use Rattle.py_compile.specs.Uses.{Use, Inside, Uses, quiet, in_turn, none_used, all_in_turn, read, target, read_some, target_some}
-use Rattle.py_compile.specs.Statements.{Body, Stated, Armed, Handled, still, block, count, pieces, inners, armed, armed_count, armed_inner, handled, handled_inner, clause, base}
+use Rattle.py_templates.specs.Expressions.{value, stored}
+use Rattle.py_templates.specs.Uses.{Use, Inside, Uses, quiet, in_turn, none_used, all_in_turn, read, target, read_some, target_some}
+use Rattle.py_templates.specs.Statements.{Body, Stated, Armed, Handled, still, block, count, pieces, inners, armed, armed_count, armed_inner, handled, handled_inner, clause, base}
 use Rattle.compiler_laws.proofs.EachFrom.{EachFrom, from_front, from_back, from_join}
 use Rattle.compiler_laws.proofs.Legal.{Legal, always, both, all_legal}
 use Rattle.compiler_laws.proofs.Legal as lg
 use Rattle.compiler_laws.proofs.Sane.{sane, sane_some}
-use Rattle.py_compile.proofs.ExprInduct.{Every, every_front, every_back}
+use Rattle.py_templates.proofs.ExprInduct.{Every, every_front, every_back}
 use Rattle.compiler_laws.proofs.World.{known, inside, lim, HasNone}
 use Rattle.compiler_laws.proofs.UsesInTurn.{use_back, zero_back}
 use Rattle.compiler_laws.proofs.FoldInduct.{Related, Nil, Cons, related_as}

@@ -12,7 +12,7 @@ use Rattle.py_tree.specs.declared.stmt.Handler.{Handler, roll-Handler}
 use Rattle.py_tree.specs.declared.stmt.Stmt.TheVariants as s
 use Rattle.py_tree.specs.declared.stmt.Stmt.TheOpen as open'
 use Rattle.py_tree.specs.declared.stmt.Stmt.TheFolds.{ind-Stmt, map-Stmt, map-Arm, map-Clause, map-Handler}
-use Rattle.py_compile.proofs.ExprInduct.{Every, IfThere, every}
+use Rattle.py_templates.proofs.ExprInduct.{Every, IfThere, every}
 
 module _ (P : Stmt → Type 0) where
   abbrev pub OfArm : Arm → Type 0

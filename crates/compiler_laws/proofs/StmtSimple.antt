@@ -14,22 +14,22 @@ use Rattle.py_tree.specs.declared.expr.Operator.{Operator}
 use Rattle.py_tree.specs.declared.stmt.Imported.{Imported}
 use Rattle.py_tree.specs.declared.stmt.Param.{Param}
 use Rattle.py_tree.specs.Form.{form, is_single}
-use Rattle.py_compile.specs.declared.home.Home.{Home}
-use Rattle.py_compile.specs.Template.{Piece, Alone, row}
-use Rattle.py_compile.specs.Table.{Around, expression, print_one, raise_one, raise_two, return, raise_again}
-use Rattle.py_compile.specs.Names.{Known, home, library, member, text}
-use Rattle.py_compile.specs.Expressions.{operator, coded, add_at, value, values, value_some, stored, all_stored, all_deleted}
-use Rattle.py_compile.specs.Uses.{Use, Inside, name_bound, read, target, read_all, target_all, read_some, read_defaults, import_use}
-use Rattle.py_compile.specs.Statements.{stores_before, last_target, assigned, printed, raised, asserted, imported, taken_from, deletion, default_or, defaults, base, bound_name}
+use Rattle.py_templates.specs.declared.home.Home.{Home}
+use Rattle.py_templates.specs.Template.{Piece, Alone, row}
+use Rattle.py_templates.specs.Table.{Around, expression, print_one, raise_one, raise_two, return, raise_again}
+use Rattle.py_templates.specs.Names.{Known, home, library, member, text}
+use Rattle.py_templates.specs.Expressions.{operator, coded, add_at, value, values, value_some, stored, all_stored, all_deleted}
+use Rattle.py_templates.specs.Uses.{Use, Inside, name_bound, read, target, read_all, target_all, read_some, read_defaults, import_use}
+use Rattle.py_templates.specs.Statements.{stores_before, last_target, assigned, printed, raised, asserted, imported, taken_from, deletion, default_or, defaults, base, bound_name}
 use Rattle.compiler_laws.proofs.Sane.{sane, all_sane, sane_some}
 use Rattle.compiler_laws.proofs.Legal.{is_target_of, are_targets, raises, sane_defaults}
 use Rattle.compiler_laws.proofs.Ops.{sh}
-use Rattle.py_compile.proofs.Typed.{template_typed}
+use Rattle.py_templates.proofs.Typed.{template_typed}
 use Rattle.compiler_laws.proofs.Values.{Each, Value, Store, Change, one_is, also_is}
 use Rattle.compiler_laws.proofs.Surrounds.{Does, low, leaves_does, block_does, in_loop, in_clause}
 use Rattle.compiler_laws.proofs.Blocks.{nothing_does, return_does, raise_again_does, assign_does, IsHome, expression_does, print_one_does, print_line_does, import_does, raise_one_does, raise_two_does, assert_with_does, assert_alone_does}
-use Rattle.py_compile.proofs.ExprInduct.{Every, every_front, every_back, every_join}
-use Rattle.py_compile.proofs.Homes.{Covered, IsHomed, home_bound}
+use Rattle.py_templates.proofs.ExprInduct.{Every, every_front, every_back, every_join}
+use Rattle.py_templates.proofs.Homes.{Covered, IsHomed, home_bound}
 use Rattle.compiler_laws.proofs.SmallNumbers.{operator_small}
 use Rattle.compiler_laws.proofs.ExprTyped.{expr_ok, all_ok, if_ok, values_ok, stores_ok, deletes_ok, some_ok}
 use Rattle.compiler_laws.proofs.World.{known, inside, lim, Covers, Wide, wide_to, HasNone, Slotted, fits, first_list}

@@ -4,13 +4,13 @@ use Rattle.std.proofs.Common.{◌≡◌, ◌&&◌, ℕ, ◌+◌, List, [], ◌�
 use Rattle.std.proofs.lemmas.Bool.{and_parts}
 use Rattle.py_code.specs.Effects.{Limits}
 use Rattle.py_tree.specs.declared.expr.Expr.{Expr}
-use Rattle.py_compile.specs.Template.{Piece, row}
-use Rattle.py_compile.specs.Table.{Around, InWhile, InFor, InClause, arm, all_arms, while, for}
-use Rattle.py_compile.specs.Names.{Known}
-use Rattle.py_compile.specs.Expressions.{value, stored}
-use Rattle.py_compile.specs.Uses.{Use, Inside, Uses, quiet, in_turn, none_used, all_in_turn, read, target, read_some, target_some}
-use Rattle.py_compile.specs.Statements.{Body, Stated, Armed, Handled, still, block, count, pieces, inners, armed, armed_count, armed_inner, handled, handled_count, handled_inner, clause}
-use Rattle.py_compile.proofs.ExprInduct.{every_front, every_back}
+use Rattle.py_templates.specs.Template.{Piece, row}
+use Rattle.py_templates.specs.Table.{Around, InWhile, InFor, InClause, arm, all_arms, while, for}
+use Rattle.py_templates.specs.Names.{Known}
+use Rattle.py_templates.specs.Expressions.{value, stored}
+use Rattle.py_templates.specs.Uses.{Use, Inside, Uses, quiet, in_turn, none_used, all_in_turn, read, target, read_some, target_some}
+use Rattle.py_templates.specs.Statements.{Body, Stated, Armed, Handled, still, block, count, pieces, inners, armed, armed_count, armed_inner, handled, handled_count, handled_inner, clause}
+use Rattle.py_templates.proofs.ExprInduct.{every_front, every_back}
 use Rattle.compiler_laws.proofs.Sane.{sane, sane_some}
 use Rattle.compiler_laws.proofs.Legal.{Legal, always, both, all_legal, is_target_of}
 use Rattle.compiler_laws.proofs.Legal as lg

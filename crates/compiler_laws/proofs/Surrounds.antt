@@ -2,9 +2,9 @@
 use Rattle.std.proofs.Common.{◌≡◌, ℕ, ◌+◌, ◌<◌, ◌≤◌, ◌^◌, List, [], ◌∷◌, Some, None, Bool, true, false, sym, subst, arith, map, get_or, drop}
 use Rattle.std.specs.Prelude.{IsTrue}
 use Rattle.py_code.specs.Effects.{Limits, Sh, floor_of}
-use Rattle.py_compile.specs.Template.{Piece, Sub, size_of, row}
-use Rattle.py_compile.specs.Table.{E, A, Around, InWhile, InFor, InTry, InClause, InFinally}
-use Rattle.py_compile.proofs.Typed.{Ring, ring_at, Typed}
+use Rattle.py_templates.specs.Template.{Piece, Sub, size_of, row}
+use Rattle.py_templates.specs.Table.{E, A, Around, InWhile, InFor, InTry, InClause, InFinally}
+use Rattle.py_templates.proofs.Typed.{Ring, ring_at, Typed}
 use Rattle.compiler_laws.proofs.Ops.{sh}
 use Rattle.compiler_laws.proofs.Values.{Each, Room, same}
 

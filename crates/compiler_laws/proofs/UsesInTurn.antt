@@ -1,7 +1,7 @@
 -- What holds of each use of parts in turn holds of each use of every part, at the place where the part begins.
 use Rattle.std.proofs.Common.{◌≡◌, ℕ, ◌+◌, List, ◌++◌, sym, subst, arith}
-use Rattle.py_compile.specs.Uses.{Use, Inside, Uses, in_turn}
-use Rattle.py_compile.proofs.ExprInduct.{Every, every_front, every_back, every_join}
+use Rattle.py_templates.specs.Uses.{Use, Inside, Uses, in_turn}
+use Rattle.py_templates.proofs.ExprInduct.{Every, every_front, every_back, every_join}
 
 module _ (Q : Use → Type 0) where
   -- the second of two, where the first has so many bodies

@@ -3,9 +3,9 @@ use Rattle.std.proofs.Common.{◌≡◌, ℕ, suc, ◌+◌, ◌<◌, ◌≤◌, 
 use Rattle.py_code.specs.declared.instr.Instr.{Instr}
 use Rattle.py_code.specs.declared.instr.Instr.TheVariants.{Pop, Dup, Rot2, Rot3, LoadAttr, StoreAttr, LoadMethod, LoadItem, StoreItem, Slice, Compare, Jump, JumpFalse, KeepFalse, BuildDict, Unpack, Call, CallMethod}
 use Rattle.py_code.specs.Effects.{Limits, effect, On, Sh, floor_of, IsKeys, IsKnown, IsText}
-use Rattle.py_compile.specs.Template.{Piece, Op, To, Here, Alone, Sub, size_of, row}
-use Rattle.py_compile.specs.Table.{E, F, N, one_value, two_values, link, operators, kept, all_kept, between, chained, conditional, attribute, index, slice, call, method_call, trail, built, pair, one, to_attr, to_item, to_all, also}
-use Rattle.py_compile.proofs.Typed.{Ring, ring_at, Typed, Goes, Jumps, PartsOk, template_typed}
+use Rattle.py_templates.specs.Template.{Piece, Op, To, Here, Alone, Sub, size_of, row}
+use Rattle.py_templates.specs.Table.{E, F, N, one_value, two_values, link, operators, kept, all_kept, between, chained, conditional, attribute, index, slice, call, method_call, trail, built, pair, one, to_attr, to_item, to_all, also}
+use Rattle.py_templates.proofs.Typed.{Ring, ring_at, Typed, Goes, Jumps, PartsOk, template_typed}
 use Rattle.compiler_laws.proofs.Ops.{sh, op, jump_op, jump_false, keep_false}
 
 abbrev pub Each : (Piece → Type 0) → List Piece → Type 0

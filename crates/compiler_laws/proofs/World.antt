@@ -1,13 +1,13 @@
 -- A program's names with their numbers, and its bodies one after another.
 use Rattle.std.proofs.Common.{◌≡◌, ℕ, ◌+◌, ◌<◌, ◌≤◌, List, [], ◌∷◌, ◌++◌, Bool, false, refl, subst, arith, length, map, get_or}
 use Rattle.py_code.specs.Effects.{Limits, IsText, IsCell}
-use Rattle.py_compile.specs.Names.{Known, text, cell, first_cell}
+use Rattle.py_templates.specs.Names.{Known, text, cell, first_cell}
 use Rattle.py_code.specs.Right.{first_text}
-use Rattle.py_compile.specs.Uses.{Use, Text, Global, Keys, Inside}
-use Rattle.py_compile.specs.Statements.{Body}
+use Rattle.py_templates.specs.Uses.{Use, Text, Global, Keys, Inside}
+use Rattle.py_templates.specs.Statements.{Body}
 use Rattle.compiler_laws.proofs.Surrounds.{Does}
-use Rattle.py_compile.proofs.ExprInduct.{Every}
-use Rattle.py_compile.proofs.Homes.{KeysFit, Covered, Fits}
+use Rattle.py_templates.proofs.ExprInduct.{Every}
+use Rattle.py_templates.proofs.Homes.{KeysFit, Covered, Fits}
 use Rattle.compiler_laws.proofs.EachFrom.{EachFrom}
 
 module _ (locals : ℕ → List (List ℕ)) (texts cells : List (List ℕ)) (keys : ℕ → List (List (List ℕ))) (params : List ℕ)

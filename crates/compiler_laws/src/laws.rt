@@ -4,8 +4,8 @@ ghost use Rattle.py_tree.specs.declared.stmt.Module.{Module};
 ghost use Rattle.py_names.specs.declared.scope.Scope.{Scope};
 ghost use Rattle.py_code.specs.declared.program.Program.{Program};
 ghost use Rattle.py_code.specs.Right.{IsRightProgram};
-ghost use Rattle.py_compile.specs.Compiles.{Compiles};
-ghost use Rattle.py_compile.specs.Resolved.{IsResolved};
+ghost use Rattle.py_templates.specs.Compiles.{Compiles};
+ghost use Rattle.py_templates.specs.Resolved.{IsResolved};
 
 /// The program that is compiled of a tree, which is one of some tokens by the grammar, with the scopes that it has, is
 /// right: what is tested of a program before it runs holds of it. Of another tree the program need not be right: a

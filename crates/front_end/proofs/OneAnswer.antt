@@ -13,8 +13,8 @@ use Rattle.py_names.specs.declared.scope.Scope.{Scope}
 use Rattle.py_names.specs.Outline.{outline}
 use Rattle.py_names.specs.Scopes.{AreScopes, fault}
 use Rattle.py_code.specs.declared.program.Program.{Program}
-use Rattle.py_compile.specs.Compiles.{bound_in}
-use Rattle.py_compile.specs.Whole.{program_of, too_large_in}
+use Rattle.py_templates.specs.Compiles.{bound_in}
+use Rattle.py_templates.specs.Whole.{program_of, too_large_in}
 use Rattle.front_laws.specs.Trees.{IsTree}
 use Rattle.front_end.specs.TextCode.{HasNoTree, HasScopes, HasNoScopes, HasCode, HasNoCode, IsRefused}
 

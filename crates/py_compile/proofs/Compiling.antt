@@ -9,17 +9,18 @@ use Rattle.py_names.specs.declared.scope.Scope.{Scope}
 use Rattle.std.proofs.lemmas.Bool.{lt-ltb, ltb-true}
 use Rattle.py_tree.specs.declared.stmt.Stmt.{Stmt}
 use Rattle.py_tree.specs.declared.stmt.Module.{Module}
-use Rattle.py_compile.specs.declared.bodies.Body.{Body as Gathered}
-use Rattle.py_compile.specs.declared.error.CompileError.{CompileError}
-use Rattle.py_compile.specs.declared.error.CompileError.TheVariants.{Refused, OutOfMemory}
-use Rattle.py_compile.specs.Compiles.{Compiles, bound_in}
+use Rattle.py_uses.specs.declared.bodies.Body.{Body as Gathered}
+use Rattle.py_templates.specs.declared.error.CompileError.{CompileError}
+use Rattle.py_templates.specs.declared.error.CompileError.TheVariants.{Refused, OutOfMemory}
+use Rattle.py_templates.specs.Compiles.{Compiles, bound_in}
 use Rattle.py_compile.specs.inner.Bodies.{CodesOf, Padded, known_in}
-use Rattle.py_compile.specs.inner.Gathered.{numbered}
-use Rattle.py_compile.specs.Statements.{Body}
-use Rattle.py_compile.specs.inner.Tallies.{Listed, Tally, locals_in}
-use Rattle.py_compile.specs.Uses.{cells_from, module_uses, texts_from}
-use Rattle.py_compile.specs.Whole.{bodies, codes_from, is_long, large_bodies, names_of, program_of, roots, roots_with, too_large_in, too_many}
-use Rattle.py_compile.proofs.Compiled.{Told, length_numbered, codes_same, large_same}
+use Rattle.py_uses.specs.inner.Gathered.{numbered}
+use Rattle.py_templates.specs.Statements.{Body}
+use Rattle.py_uses.specs.inner.Tallies.{Listed, Tally, locals_in}
+use Rattle.py_templates.specs.Uses.{cells_from, module_uses, texts_from}
+use Rattle.py_templates.specs.Whole.{bodies, codes_from, is_long, large_bodies, names_of, program_of, roots, roots_with, too_large_in, too_many}
+use Rattle.py_uses.proofs.ModuleUses.{Told}
+use Rattle.py_compile.proofs.Compiled.{length_numbered, codes_same, large_same}
 
 -- what was gathered, by what calls say of it
 pub told_is : (all : List (List (List ℕ))) (ss : List Stmt) (n : ℕ) (used : Tally) (all' : List (List (List ℕ)))

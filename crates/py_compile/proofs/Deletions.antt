@@ -7,12 +7,12 @@ use Rattle.py_tree.specs.declared.expr.Link.{Link}
 use Rattle.py_tree.specs.declared.expr.Pair.{Pair}
 use Rattle.py_tree.specs.declared.expr.Sign.{Sign}
 use Rattle.py_tree.proofs.Heights.{height_group, height_tuple, height_list}
-use Rattle.py_compile.specs.Template.{row}
-use Rattle.py_compile.specs.Names.{Known}
-use Rattle.py_compile.specs.Expressions.{NoPlace, coded, deleted, del_at, all_deleted}
+use Rattle.py_templates.specs.Template.{row}
+use Rattle.py_templates.specs.Names.{Known}
+use Rattle.py_templates.specs.Expressions.{NoPlace, coded, deleted, del_at, all_deleted}
 use Rattle.py_compile.specs.inner.Deletions.{SameDeletions}
-use Rattle.py_compile.proofs.Coded.{coded_group, coded_tuple, coded_list, coded_int, coded_str, coded_dict, coded_power, coded_unary, coded_chain, coded_not, coded_choice}
-use Rattle.py_compile.proofs.RowsEqual.{row_flat, row_front}
+use Rattle.py_templates.proofs.Coded.{coded_group, coded_tuple, coded_list, coded_int, coded_str, coded_dict, coded_power, coded_unary, coded_chain, coded_not, coded_choice}
+use Rattle.py_templates.proofs.RowsEqual.{row_flat, row_front}
 
 all_deleted_append : (n : Known) (ln : ℕ) (xs ys : List Expr) →
     all_deleted n ln (xs ++ ys) ≡ all_deleted n ln xs ++ all_deleted n ln ys

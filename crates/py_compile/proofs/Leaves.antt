@@ -2,14 +2,14 @@
 use Rattle.std.specs.Prelude.{IfOk, Result, Ok, Err}
 use Rattle.std.proofs.Common.{◌≡◌, ℕ, ◌+◌, List, [], ◌∷◌, refl, arith}
 use Rattle.py_code.specs.declared.instr.Instr.TheVariants.{Pop, LoadLocal, Jump, PopTry, Raise}
-use Rattle.py_compile.specs.declared.draft.Draft.TheVariants.{Op as DraftOp, To as DraftTo}
-use Rattle.py_compile.specs.declared.draft.Far.TheVariants.{Always}
-use Rattle.py_compile.specs.declared.around.Way.{Way}
-use Rattle.py_compile.specs.declared.around.Way.TheVariants.{Break, Continue, Out}
-use Rattle.py_compile.specs.Template.{Frame, Piece, Op, Hidden, To, Sub}
-use Rattle.py_compile.specs.Table.{Around, InWhile, InFor, InTry, InClause, InFinally, way_out, raise_again}
-use Rattle.py_compile.specs.inner.State.{St, put, Emitted, frame_there}
-use Rattle.py_compile.proofs.Emits.{plain_emitted}
+use Rattle.py_emit.specs.declared.draft.Draft.TheVariants.{Op as DraftOp, To as DraftTo}
+use Rattle.py_emit.specs.declared.draft.Far.TheVariants.{Always}
+use Rattle.py_templates.specs.declared.way.Way.{Way}
+use Rattle.py_templates.specs.declared.way.Way.TheVariants.{Break, Continue, Out}
+use Rattle.py_templates.specs.Template.{Frame, Piece, Op, Hidden, To, Sub}
+use Rattle.py_templates.specs.Table.{Around, InWhile, InFor, InTry, InClause, InFinally, way_out, raise_again}
+use Rattle.py_emit.specs.inner.State.{St, put, Emitted, frame_there}
+use Rattle.py_emit.proofs.Emits.{plain_emitted}
 
 pub ok_map : {A E : Type 0} {P Q : A → Type 0} (r : Result A E) → IfOk r P → ((a : A) → P a → Q a) → IfOk r Q
 ok_map (Ok a) h f = f a h

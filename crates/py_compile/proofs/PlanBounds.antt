@@ -7,7 +7,7 @@ use Rattle.py_compile.specs.declared.plan.Plan.TheOpen as open'
 use Rattle.py_compile.specs.declared.plan.Plan.TheFolds.{fold-Plan}
 use Rattle.py_compile.specs.declared.around.Around.{Around as Round}
 use Rattle.py_compile.specs.declared.around.Around.TheVariants.{Body, While', For', Try', Clause', Finally'}
-use Rattle.py_compile.specs.inner.Weights.{total}
+use Rattle.py_templates.specs.inner.Weights.{total}
 
 abbrev pub plan_weight_step : open'.Plan-F ℕ ℕ ℕ → ℕ
 plan_weight_step (open'.If as' e) = 8 + (total as' + total e)

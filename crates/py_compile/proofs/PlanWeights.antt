@@ -9,7 +9,7 @@ use Rattle.py_compile.specs.declared.plan.Plan.TheFolds.{fold-PlanArm, fold-Plan
 use Rattle.py_compile.specs.declared.plan.PlanArm.{PlanArm}
 use Rattle.py_compile.specs.declared.plan.PlanHandler.{PlanHandler}
 use Rattle.py_compile.specs.declared.plan.Simple.{Simple}
-use Rattle.py_compile.specs.inner.Weights.{total}
+use Rattle.py_templates.specs.inner.Weights.{total}
 use Rattle.py_compile.proofs.PlanBounds.{plan_weight_step, plan_arm_step, plan_handler_step, plan_weight, plan_weights, plan_weights_arms, plan_weights_handlers}
 
 weight_arm : PlanArm → ℕ

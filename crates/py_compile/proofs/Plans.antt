@@ -13,14 +13,14 @@ use Rattle.py_compile.specs.declared.plan.PlanHandler.{PlanHandler}
 use Rattle.py_compile.specs.declared.plan.Simple.{Simple}
 use Rattle.py_compile.specs.declared.plan.Simple.TheVariants as simple
 use Rattle.py_compile.specs.inner.Deletions.{SameDeletions}
-use Rattle.py_compile.specs.Template.{Piece, Alone, template, row}
-use Rattle.py_compile.specs.Table.{nothing, def, class, arm, all_arms, while, for, try_except, try_finally, Around, InWhile, InFor, InTry, InClause, InFinally}
-use Rattle.py_compile.specs.Names.{Known, home}
-use Rattle.py_compile.specs.Expressions.{all_deleted, value, values, stored}
-use Rattle.py_compile.specs.Statements.{Stated, all_stated, armed, base, block, clause, count, defaults, deletion, handled, pieces, stated, stated_arms, stated_block, stated_handlers, still}
+use Rattle.py_templates.specs.Template.{Piece, Alone, template, row}
+use Rattle.py_templates.specs.Table.{nothing, def, class, arm, all_arms, while, for, try_except, try_finally, Around, InWhile, InFor, InTry, InClause, InFinally}
+use Rattle.py_templates.specs.Names.{Known, home}
+use Rattle.py_templates.specs.Expressions.{all_deleted, value, values, stored}
+use Rattle.py_templates.specs.Statements.{Stated, all_stated, armed, base, block, clause, count, defaults, deletion, handled, pieces, stated, stated_arms, stated_block, stated_handlers, still}
 use Rattle.py_compile.specs.inner.Plans.{Coded, each, plan_step, arm_step, handler_step, simple_stmt, planned, planned_all, planned_arm, planned_arms, planned_handler, planned_handlers, ArePlans, AddPlans, if_plan, while_plan, for_plan, try_plan, finally_plan}
-use Rattle.py_compile.proofs.RowsEqual.{row_flat}
-use Rattle.py_compile.proofs.Stateds as k
+use Rattle.py_templates.proofs.RowsEqual.{row_flat}
+use Rattle.py_templates.proofs.Stateds as k
 
 -- a piece alone in its row
 

@@ -14,14 +14,3 @@ pub enum Around<'s, 'a> {
     Clause(usize, u32, &'s Around<'s, 'a>),
     Finally(usize, u32, &'s Items<Plan<'a>>, &'s Around<'s, 'a>),
 }
-
-/// The ways out of constructs.
-#[derive(Clone, Copy)]
-pub enum Way {
-    /// To the end of the innermost loop.
-    Break,
-    /// To its next turn.
-    Continue,
-    /// Out of the body.
-    Out,
-}

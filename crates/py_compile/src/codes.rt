@@ -1,28 +1,23 @@
 //! The codes of a program.
 ghost use Rattle.std.specs.Prelude.{◌≡◌, ◌<◌, ◌≤◌, ◌+◌, ◌^◌, ◌++◌, ◌∷◌, [], length, map, replicate, Err, IfOk, OnOk, None, Some};
 ghost use Rattle.py_compile.specs.inner.Bodies.{CodesOf, known_by, known_in};
-ghost use Rattle.py_compile.specs.Expressions.{key_names};
-ghost use Rattle.py_compile.specs.inner.Gathered.{body_of, numbered};
-ghost use Rattle.py_compile.specs.Names.{first_cell, text};
-ghost use Rattle.py_compile.specs.inner.State.{Emitted, no_frames};
-ghost use Rattle.py_compile.specs.Statements.{stated_block};
-ghost use Rattle.py_compile.specs.Table.{body_code, module_code};
-ghost use Rattle.py_compile.specs.Whole.{code_at, large_at, least, slots_named, whole};
+ghost use Rattle.py_templates.specs.Expressions.{key_names};
+ghost use Rattle.py_uses.specs.inner.Gathered.{body_of, numbered};
+ghost use Rattle.py_templates.specs.Names.{first_cell, text};
+ghost use Rattle.py_emit.specs.inner.State.{Emitted, no_frames};
+ghost use Rattle.py_templates.specs.Statements.{stated_block};
+ghost use Rattle.py_templates.specs.Table.{body_code, module_code};
+ghost use Rattle.py_templates.specs.Whole.{code_at, large_at, least, slots_named, whole};
 
 use crate::around::Around;
-use crate::bodies::Body;
-use crate::count::to_u32;
-use crate::draft::Draft;
-use crate::emitter::Emitter;
-use crate::error::{CompileError, Fault, too_large};
-use crate::key_set::KeySet;
-use crate::names::Names;
 use crate::planning;
 use crate::statement::block;
-use crate::tally::Tally;
 use py_base::{Bytes, NameSet, NoMemory, Refusal, split};
 use py_code::{Code, Codes, Constant, Instr, KeyLists, Keys, Texts};
+use py_emit::{Draft, Emitter, Fault};
+use py_templates::{CompileError, KeySet, Names, to_u32, too_large};
 use py_tree::Named;
+use py_uses::{Body, Tally};
 use sqlite_items::Items;
 use std::alloc::Global;
 

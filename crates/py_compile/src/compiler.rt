@@ -2,21 +2,20 @@
 ghost use Rattle.std.specs.Prelude.{◌≡◌, [], IfOk, OnOk};
 ghost use Rattle.std.specs.List.{IsDistinct, list_any};
 ghost use Rattle.std.specs.Str.{bytes_eq};
-ghost use Rattle.py_compile.specs.Compiles.{Compiles, bound_in};
+ghost use Rattle.py_templates.specs.Compiles.{Compiles, bound_in};
 ghost use Rattle.py_compile.specs.inner.Bodies.{NamedOnce, Padded};
-ghost use Rattle.py_compile.specs.inner.Gathered.{numbered};
-ghost use Rattle.py_compile.specs.Resolved.{IsResolved};
-ghost use Rattle.py_compile.specs.Whole.{bodies, is_long};
+ghost use Rattle.py_uses.specs.inner.Gathered.{numbered};
+ghost use Rattle.py_templates.specs.Resolved.{IsResolved};
+ghost use Rattle.py_templates.specs.Whole.{bodies, is_long};
 
-use crate::bodies::{Body, gather};
-use crate::body_uses::module;
 use crate::codes::codes;
-use crate::error::{CompileError, too_large};
 use crate::roots::roots;
 use py_base::{Bytes, NameSet, NoMemory, split};
 use py_code::Program;
 use py_names::Scopes;
+use py_templates::{CompileError, too_large};
 use py_tree::{Module, Stmt};
+use py_uses::{Body, gather, module};
 use sqlite_items::Items;
 use std::alloc::Global;
 

@@ -1,18 +1,19 @@
 //! Planning: the statements of a body that have code, with the numbers of their own bodies. It goes once over the text
 //! of the body; what stands in a `def` or a `class` is counted for each round it, of which there are at most 100.
 ghost use Rattle.std.specs.Prelude.{◌≡◌, ◌+◌, List, IfOk, OnOk};
-ghost use Rattle.py_compile.specs.inner.Compounds.{finally_code, for_code, if_code, otherwise, tried_of, while_code};
-ghost use Rattle.py_compile.specs.Names.{Known, home};
-ghost use Rattle.py_compile.specs.Expressions.{all_deleted, values};
+ghost use Rattle.py_templates.specs.inner.Compounds.{finally_code, for_code, if_code, otherwise, tried_of, while_code};
+ghost use Rattle.py_templates.specs.Names.{Known, home};
+ghost use Rattle.py_templates.specs.Expressions.{all_deleted, values};
 ghost use Rattle.py_compile.specs.inner.Plans.{AddPlans, ArePlans, planned_arms, planned_handlers, simple_stmt};
-ghost use Rattle.py_compile.specs.Statements.{all_stated, armed, armed_count, base, count, defaults, deletion, handled, handled_count, stated, stated_arms, stated_block, stated_handlers};
-ghost use Rattle.py_compile.specs.Table.{Around, class, def};
+ghost use Rattle.py_templates.specs.Statements.{all_stated, armed, armed_count, base, count, defaults, deletion, handled, handled_count, stated, stated_arms, stated_block, stated_handlers};
+ghost use Rattle.py_templates.specs.Table.{Around, class, def};
 
-use crate::bodies::{bodies_in_block, clause_body, sum};
 use crate::deletion::single_targets;
 use crate::plan::{Plan, PlanArm, PlanHandler, Simple};
 use py_base::{Bytes, NoMemory, split};
+use py_templates::sum;
 use py_tree::{Arm, Clause, Expr, Handler, Param, Stmt};
+use py_uses::{bodies_in_block, clause_body};
 use sqlite_items::Items;
 use std::alloc::Global;
 

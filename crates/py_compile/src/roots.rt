@@ -1,7 +1,7 @@
 //! The roots of a program.
 ghost use Rattle.std.specs.Prelude.{◌≡◌, ◌++◌, ◌∷◌, [], map, IfOk, OnOk};
 ghost use Rattle.py_base.specs.Numbers.{class_count};
-ghost use Rattle.py_compile.specs.Whole.{roots_with};
+ghost use Rattle.py_templates.specs.Whole.{roots_with};
 ghost use Rattle.py_code.specs.Right.{cell_root, class_roots};
 
 use py_base::{Bytes, Kind, NameSet, NoMemory, exception};

@@ -1,31 +1,26 @@
 //! The code of statements, from their plans. It is linear in what it emits: each plan has an instruction of its own.
 ghost use Rattle.std.specs.Prelude.{◌≡◌, ◌<◌, ◌+◌, ◌^◌, ◌∷◌, Err, IfOk, length};
 ghost use Rattle.py_code.specs.declared.instr.Instr.TheVariants.{Pop};
-ghost use Rattle.py_compile.specs.declared.draft.Draft.TheVariants.{Op as DraftOp, To as DraftTo};
-ghost use Rattle.py_compile.specs.declared.draft.Far.TheVariants.{Always};
-ghost use Rattle.py_compile.specs.Expressions.{value_some};
-ghost use Rattle.py_compile.specs.Names.{Known};
+ghost use Rattle.py_emit.specs.declared.draft.Draft.TheVariants.{Op as DraftOp, To as DraftTo};
+ghost use Rattle.py_emit.specs.declared.draft.Far.TheVariants.{Always};
+ghost use Rattle.py_templates.specs.Expressions.{value_some};
+ghost use Rattle.py_templates.specs.Names.{Known};
 ghost use Rattle.py_compile.specs.inner.Plans.{for_plan, finally_plan, if_plan, planned, planned_all, planned_arms, planned_block, planned_handlers, simple_stmt, try_plan, while_plan};
 ghost use Rattle.py_compile.specs.inner.Rounds.{around_of, env_of};
-ghost use Rattle.py_compile.specs.inner.State.{Emitted, frame_there, put};
-ghost use Rattle.py_compile.specs.Statements.{raised, stated};
-ghost use Rattle.py_compile.specs.Table.{raise_again, return, way_out};
-ghost use Rattle.py_compile.specs.Template.{row};
+ghost use Rattle.py_emit.specs.inner.State.{Emitted, frame_there, put};
+ghost use Rattle.py_templates.specs.Statements.{raised, stated};
+ghost use Rattle.py_templates.specs.Table.{raise_again, return, way_out};
+ghost use Rattle.py_templates.specs.Template.{row};
 
-use crate::around::{Around, Way};
-use crate::draft::{Draft, Far};
-use crate::emitter::Emitter;
-use crate::error::Fault;
-use crate::names::Names;
-use crate::parts::{
-    arm_head, arm_tail, catch, for_head, handler_head, handler_tail, loop_tail, pop_try,
-    raise_slot, return_head, return_tail, try_head, while_head,
-};
+use crate::around::Around;
 use crate::plan::{Plan, PlanArm, PlanHandler, Simple};
-use crate::simple::{
-    alone, assert, assign, change, class, def, delete, import, print, raise_made, take_from,
-};
 use py_code::Instr;
+use py_emit::{
+    Draft, Emitter, Far, Fault, alone, arm_head, arm_tail, assert, assign, catch, change, class,
+    def, delete, for_head, handler_head, handler_tail, import, loop_tail, pop_try, print,
+    raise_made, raise_slot, return_head, return_tail, take_from, try_head, while_head,
+};
+use py_templates::{Names, Way};
 use py_tree::{Arm, Expr};
 use sqlite_items::Items;
 

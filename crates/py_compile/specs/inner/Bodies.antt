@@ -6,12 +6,12 @@ use Rattle.std.specs.Str.{bytes_eq}
 use Rattle.py_base.specs.declared.refusal.Refusal.TheVariants.{TooLarge}
 use Rattle.py_code.specs.declared.program.Code.{Code}
 use Rattle.py_names.specs.declared.scope.Scope.{Scope}
-use Rattle.py_compile.specs.declared.error.CompileError.{CompileError}
-use Rattle.py_compile.specs.declared.error.CompileError.TheVariants.{Refused, OutOfMemory}
-use Rattle.py_compile.specs.Names.{Known}
-use Rattle.py_compile.specs.Statements.{Body}
-use Rattle.py_compile.specs.Whole.{codes_from, large_bodies}
-use Rattle.py_compile.specs.inner.Tallies.{Tally}
+use Rattle.py_templates.specs.declared.error.CompileError.{CompileError}
+use Rattle.py_templates.specs.declared.error.CompileError.TheVariants.{Refused, OutOfMemory}
+use Rattle.py_templates.specs.Names.{Known}
+use Rattle.py_templates.specs.Statements.{Body}
+use Rattle.py_templates.specs.Whole.{codes_from, large_bodies}
+use Rattle.py_uses.specs.inner.Tallies.{Tally}
 
 -- what the body with that number knows of names, where these were used
 abbrev pub known_by : List (List ℕ) → Tally → ℕ → Bool → Known

@@ -2,9 +2,9 @@
 -- Targets that are deleted by the same code. It belongs to `Expressions`.
 use Rattle.std.specs.Prelude.{◌≡◌, ℕ, List}
 use Rattle.py_tree.specs.declared.expr.Expr.{Expr}
-use Rattle.py_compile.specs.Template.{row}
-use Rattle.py_compile.specs.Names.{Known}
-use Rattle.py_compile.specs.Expressions.{all_deleted}
+use Rattle.py_templates.specs.Template.{row}
+use Rattle.py_templates.specs.Names.{Known}
+use Rattle.py_templates.specs.Expressions.{all_deleted}
 
 -- the deletions of these in turn are those of the others
 pub record SameDeletions (xs ys : List Expr) : Type 0 where

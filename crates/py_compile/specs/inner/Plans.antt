@@ -12,11 +12,11 @@ use Rattle.py_compile.specs.declared.plan.PlanArm.{PlanArm}
 use Rattle.py_compile.specs.declared.plan.PlanHandler.{PlanHandler}
 use Rattle.py_compile.specs.declared.plan.Plan.TheOpen as open'
 use Rattle.py_compile.specs.declared.plan.Plan.TheFolds.{fold-Plan}
-use Rattle.py_compile.specs.Template.{Piece, row}
-use Rattle.py_compile.specs.Table.{def, class, arm, all_arms, while, for, try_except, try_finally, Around, InWhile, InFor, InTry, InClause, InFinally}
-use Rattle.py_compile.specs.Names.{Known, home}
-use Rattle.py_compile.specs.Expressions.{all_deleted, value, values, stored}
-use Rattle.py_compile.specs.Statements.{base, clause, defaults, deletion, stated}
+use Rattle.py_templates.specs.Template.{Piece, row}
+use Rattle.py_templates.specs.Table.{def, class, arm, all_arms, while, for, try_except, try_finally, Around, InWhile, InFor, InTry, InClause, InFinally}
+use Rattle.py_templates.specs.Names.{Known, home}
+use Rattle.py_templates.specs.Expressions.{all_deleted, value, values, stored}
+use Rattle.py_templates.specs.Statements.{base, clause, defaults, deletion, stated}
 
 -- the statement that it stands for
 abbrev pub simple_stmt : Simple → Stmt

@@ -3,11 +3,11 @@
 use Rattle.std.specs.Prelude.{ℕ, List, [], ◌∷◌}
 use Rattle.py_compile.specs.declared.around.Around.{Around as Round}
 use Rattle.py_compile.specs.declared.around.Around.TheVariants.{Body, While', For', Try', Clause', Finally'}
-use Rattle.py_compile.specs.Template.{Frame}
-use Rattle.py_compile.specs.Table.{Around, InWhile, InFor, InTry, InClause, InFinally}
-use Rattle.py_compile.specs.Names.{Known}
+use Rattle.py_templates.specs.Template.{Frame}
+use Rattle.py_templates.specs.Table.{Around, InWhile, InFor, InTry, InClause, InFinally}
+use Rattle.py_templates.specs.Names.{Known}
 use Rattle.py_compile.specs.inner.Plans.{planned_block}
-use Rattle.py_compile.specs.inner.State.{frame_there}
+use Rattle.py_emit.specs.inner.State.{frame_there}
 
 abbrev pub around_of : Known → Round → List Around
 around_of n Body = []

@@ -1,6 +1,6 @@
 use Rattle.std.proofs.Common.{◌-◌, ap, rules}
 use Rattle.py_compile.specs.inner.Bodies.{known_by}
-use Rattle.py_compile.specs.inner.Gathered.{body_of}
+use Rattle.py_uses.specs.inner.Gathered.{body_of}
 use Rattle.py_compile.proofs.Compiled.{code_is}
 use Rattle.py_compile.proofs.codes.code.Goals as goal
 

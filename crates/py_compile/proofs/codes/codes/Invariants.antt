@@ -1,7 +1,7 @@
 use Rattle.std.proofs.Common.{◌≡◌, None, take}
 use Rattle.py_compile.specs.inner.Bodies.{known_in}
-use Rattle.py_compile.specs.inner.Gathered.{numbered}
-use Rattle.py_compile.specs.Whole.{codes_from, large_bodies}
+use Rattle.py_uses.specs.inner.Gathered.{numbered}
+use Rattle.py_templates.specs.Whole.{codes_from, large_bodies}
 use Rattle.py_compile.proofs.codes.codes.Given as goal
 
 abbrev pub invariant-loop-body : goal.invariant-loop-body

@@ -1,7 +1,7 @@
 use Rattle.std.proofs.Common.{[], subst}
-use Rattle.py_compile.specs.inner.State.{Emitted, no_frames}
-use Rattle.py_compile.specs.Statements.{all_stated, pieces}
-use Rattle.py_compile.specs.Template.{row}
+use Rattle.py_emit.specs.inner.State.{Emitted, no_frames}
+use Rattle.py_templates.specs.Statements.{all_stated, pieces}
+use Rattle.py_templates.specs.Template.{row}
 use Rattle.py_compile.proofs.Compiled.{module_arm}
 use Rattle.py_compile.proofs.codes.emit_module.Goals as goal
 

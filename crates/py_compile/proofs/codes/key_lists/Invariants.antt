@@ -1,5 +1,5 @@
 use Rattle.std.proofs.Common.{◌≡◌, map, take}
-use Rattle.py_compile.specs.Names.{text}
+use Rattle.py_templates.specs.Names.{text}
 use Rattle.py_compile.proofs.codes.key_lists.Given as goal
 
 abbrev pub invariant-loop-list : goal.invariant-loop-list

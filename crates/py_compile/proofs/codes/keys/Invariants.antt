@@ -1,6 +1,6 @@
 use Rattle.std.proofs.Common.{◌≡◌, ◌++◌, length, map}
-use Rattle.py_compile.specs.Expressions.{key_names}
-use Rattle.py_compile.specs.Names.{text}
+use Rattle.py_templates.specs.Expressions.{key_names}
+use Rattle.py_templates.specs.Names.{text}
 use Rattle.py_compile.proofs.codes.keys.Given as goal
 
 abbrev pub invariant-names : goal.invariant-names

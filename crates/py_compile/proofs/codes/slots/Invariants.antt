@@ -1,6 +1,6 @@
 use Rattle.std.proofs.Common.{◌≡◌, ◌++◌, []}
 use Rattle.std.specs.Prelude.{replicate}
-use Rattle.py_compile.specs.Whole.{slots_named}
+use Rattle.py_templates.specs.Whole.{slots_named}
 use Rattle.py_compile.proofs.codes.slots.Given as goal
 
 abbrev pub invariant-loop : goal.invariant-loop

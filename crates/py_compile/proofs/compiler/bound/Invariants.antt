@@ -1,5 +1,5 @@
 use Rattle.std.proofs.Common.{◌≡◌, ◌++◌, length}
-use Rattle.py_compile.specs.Compiles.{bound_in}
+use Rattle.py_templates.specs.Compiles.{bound_in}
 use Rattle.py_compile.specs.inner.Bodies.{NamedOnce}
 use Rattle.py_compile.proofs.compiler.bound.Given as goal
 

@@ -3,8 +3,8 @@ use Rattle.std.proofs.Common.{Err, Ok, ap, ◌∙◌, length, subst, sym}
 use Rattle.std.specs.Prelude.{option_map}
 use Rattle.py_base.specs.declared.refusal.Refusal.TheVariants.{TooLarge}
 use Rattle.py_names.specs.Outline.{outline}
-use Rattle.py_compile.specs.Compiles.{Compiles, bound_in}
-use Rattle.py_compile.specs.Whole.{bodies, is_long, roots_with}
+use Rattle.py_templates.specs.Compiles.{Compiles, bound_in}
+use Rattle.py_templates.specs.Whole.{bodies, is_long, roots_with}
 use Rattle.py_compile.proofs.Compiling.{codes_said, compiles_err, compiles_ok, large_is, long_text, many_bodies, many_roots, not_past, padded_is, past, told_is}
 use Rattle.py_compile.proofs.OnceNames.{scopes_once}
 use Rattle.py_compile.proofs.compiler.compile.Goals as goal

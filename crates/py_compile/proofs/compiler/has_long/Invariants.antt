@@ -1,6 +1,6 @@
 use Rattle.std.proofs.Common.{◌≡◌, drop, map}
 use Rattle.std.specs.List.{list_any}
-use Rattle.py_compile.specs.Whole.{is_long}
+use Rattle.py_templates.specs.Whole.{is_long}
 use Rattle.py_compile.proofs.compiler.has_long.Given as goal
 
 abbrev pub invariant-loop-text : goal.invariant-loop-text

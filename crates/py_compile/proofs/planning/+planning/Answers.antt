@@ -1,12 +1,12 @@
 use Rattle.std.proofs.Common.{◌+◌, ◌∷◌, arith, ap, sym, ◌∙◌}
 use Rattle.std.proofs.lemmas.Grind.{common_steps}
-use Rattle.py_compile.specs.Table.{InWhile, InFor, InTry, InClause, InFinally}
-use Rattle.py_compile.specs.inner.Compounds.{finally_code, for_code, if_code, otherwise, tried_of, while_code}
-use Rattle.py_compile.specs.Statements.{all_stated, armed_count, count, handled, handled_count, stated_arms, stated_block, stated_handlers}
-use Rattle.py_compile.specs.inner.Weights.{weight, weights, weights_arms, weights_handlers, weights_some}
+use Rattle.py_templates.specs.Table.{InWhile, InFor, InTry, InClause, InFinally}
+use Rattle.py_templates.specs.inner.Compounds.{finally_code, for_code, if_code, otherwise, tried_of, while_code}
+use Rattle.py_templates.specs.Statements.{all_stated, armed_count, count, handled, handled_count, stated_arms, stated_block, stated_handlers}
+use Rattle.py_templates.specs.inner.Weights.{weight, weights, weights_arms, weights_handlers, weights_some}
 use Rattle.py_compile.proofs.Leaves.{ok_map}
 use Rattle.py_compile.proofs.Plans.{add_none, add_plan, added_end, alone, arms_step, finally_plans, for_plans, handlers_step, if_plans, other_code, try_plans, while_plans}
-use Rattle.py_compile.proofs.Stateds as k
+use Rattle.py_templates.proofs.Stateds as k
 use Rattle.py_compile.proofs.planning.+planning.Goals as goal
 
 pub block-returns-clause-plans : goal.block-returns-clause-plans

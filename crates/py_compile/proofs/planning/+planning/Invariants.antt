@@ -1,9 +1,9 @@
 use Rattle.std.proofs.Common.{◌≡◌, ◌≤◌, ◌+◌, ◌++◌, List, length}
-use Rattle.py_compile.specs.Names.{Known}
+use Rattle.py_templates.specs.Names.{Known}
 use Rattle.py_compile.specs.inner.Plans.{planned_arms, planned_handlers}
-use Rattle.py_compile.specs.Statements.{all_stated, armed, armed_count, count, handled, handled_count, stated_arms, stated_handlers}
-use Rattle.py_compile.specs.Table.{Around}
-use Rattle.py_compile.specs.inner.Weights.{weight, weights, weights_arms, weights_handlers, weights_some}
+use Rattle.py_templates.specs.Statements.{all_stated, armed, armed_count, count, handled, handled_count, stated_arms, stated_handlers}
+use Rattle.py_templates.specs.Table.{Around}
+use Rattle.py_templates.specs.inner.Weights.{weight, weights, weights_arms, weights_handlers, weights_some}
 use Rattle.py_compile.proofs.Plans.{Added}
 use Rattle.py_compile.proofs.planning.+planning.Given as goal
 

@@ -1,6 +1,6 @@
-use Rattle.py_compile.specs.Names.{home}
-use Rattle.py_compile.specs.Statements.{base}
-use Rattle.py_compile.specs.Table.{class}
+use Rattle.py_templates.specs.Names.{home}
+use Rattle.py_templates.specs.Statements.{base}
+use Rattle.py_templates.specs.Table.{class}
 use Rattle.py_compile.proofs.Plans.{add_plan, planned_class}
 use Rattle.py_compile.proofs.planning.class.Goals as goal
 

@@ -1,8 +1,8 @@
 use Rattle.std.proofs.Common.{ap, ◌∙◌}
-use Rattle.py_compile.specs.Names.{home}
-use Rattle.py_compile.specs.Expressions.{values}
-use Rattle.py_compile.specs.Statements.{defaults}
-use Rattle.py_compile.specs.Table.{def}
+use Rattle.py_templates.specs.Names.{home}
+use Rattle.py_templates.specs.Expressions.{values}
+use Rattle.py_templates.specs.Statements.{defaults}
+use Rattle.py_templates.specs.Table.{def}
 use Rattle.py_compile.proofs.Plans.{add_plan, planned_def}
 use Rattle.py_compile.proofs.planning.def.Goals as goal
 

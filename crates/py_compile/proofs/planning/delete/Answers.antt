@@ -1,7 +1,7 @@
 use Rattle.std.proofs.Common.{map, subst}
 use Rattle.py_compile.specs.inner.Deletions.{SameDeletions}
-use Rattle.py_compile.specs.Expressions.{all_deleted}
-use Rattle.py_compile.specs.Statements.{deletion}
+use Rattle.py_templates.specs.Expressions.{all_deleted}
+use Rattle.py_templates.specs.Statements.{deletion}
 use Rattle.py_compile.proofs.Plans.{add_plan, delete_plans, no_delete}
 use Rattle.py_compile.proofs.planning.delete.Goals as goal
 

@@ -1,5 +1,5 @@
 use Rattle.std.proofs.Common.{◌≡◌, length}
-use Rattle.py_compile.specs.Statements.{defaults}
+use Rattle.py_templates.specs.Statements.{defaults}
 use Rattle.py_compile.proofs.planning.from_default.Given as goal
 
 abbrev pub invariant-params : goal.invariant-params

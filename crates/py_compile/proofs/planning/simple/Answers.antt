@@ -1,5 +1,5 @@
 use Rattle.std.proofs.Common.{arith}
-use Rattle.py_compile.specs.Statements.{stated}
+use Rattle.py_templates.specs.Statements.{stated}
 use Rattle.py_compile.specs.inner.Plans.{simple_stmt}
 use Rattle.py_compile.proofs.Plans.{add_plan, simple_bodies, simple_code}
 use Rattle.py_compile.proofs.planning.simple.Goals as goal

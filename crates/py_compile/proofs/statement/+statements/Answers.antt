@@ -1,18 +1,18 @@
 use Rattle.std.proofs.Common.{◌+◌, ◌∷◌, arith, ap, drop, ◌∙◌}
 use Rattle.std.proofs.lemmas.Grind.{common_steps}
-use Rattle.py_compile.specs.inner.State.{frame_there}
-use Rattle.py_compile.specs.Expressions.{value, value_some, stored}
-use Rattle.py_compile.specs.Table.{InWhile, InFor, InTry, InClause, InFinally}
+use Rattle.py_emit.specs.inner.State.{frame_there}
+use Rattle.py_templates.specs.Expressions.{value, value_some, stored}
+use Rattle.py_templates.specs.Table.{InWhile, InFor, InTry, InClause, InFinally}
 use Rattle.py_compile.specs.inner.Plans.{planned, planned_all, planned_arm, planned_arms, planned_block, planned_handler, planned_handlers}
 use Rattle.py_compile.specs.inner.Rounds.{around_of, env_of}
 use Rattle.py_compile.proofs.PlanBounds.{plan_weight, plan_weights, plan_weights_arms, plan_weights_handlers}
 use Rattle.py_base.proofs.Lists.{next_item}
-use Rattle.py_compile.proofs.Rests.{rest_step}
-use Rattle.py_compile.proofs.StmtArms.{if_arm, arm_arm, while_arm, for_arm, try_arm, finally_arm, return_arm, handler_arm}
+use Rattle.py_emit.proofs.Rests.{rest_step}
+use Rattle.py_emit.proofs.StmtArms.{if_arm, arm_arm, while_arm, for_arm, try_arm, finally_arm, return_arm, handler_arm}
 use Rattle.py_compile.proofs.Leaves.{ok_map, leave_finally}
 use Rattle.py_compile.proofs.Plans as p
 use Rattle.py_compile.proofs.PlanWeights as w
-use Rattle.py_compile.proofs.Stateds as k
+use Rattle.py_templates.proofs.Stateds as k
 use Rattle.py_compile.proofs.statement.+statements.Goals as goal
 
 pub block-loop-x-preserved : goal.block-loop-x-preserved

@@ -1,9 +1,9 @@
 use Rattle.std.proofs.Common.{◌≤◌, ◌+◌, ◌∷◌, drop}
-use Rattle.py_compile.specs.inner.State.{frame_there}
+use Rattle.py_emit.specs.inner.State.{frame_there}
 use Rattle.py_compile.specs.inner.Plans.{planned_all, planned_arms, planned_handlers}
 use Rattle.py_compile.specs.inner.Rounds.{around_of, env_of}
 use Rattle.py_compile.proofs.PlanBounds.{outside, plan_weight, plan_weights, plan_weights_arms, plan_weights_handlers}
-use Rattle.py_compile.proofs.Rests.{Rest}
+use Rattle.py_emit.proofs.Rests.{Rest}
 use Rattle.py_compile.proofs.statement.+statements.Given as goal
 
 abbrev pub decreases-leave : goal.decreases-leave

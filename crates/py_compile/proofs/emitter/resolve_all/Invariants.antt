@@ -1,6 +1,0 @@
-use Rattle.std.proofs.Common.{◌≡◌, take}
-use Rattle.py_compile.specs.inner.State.{done, places_of}
-use Rattle.py_compile.proofs.emitter.resolve_all.Given as goal
-
-abbrev pub invariant-loop-draft : goal.invariant-loop-draft
-invariant-loop-draft l = l.out ≡ done (places_of l.labels) (take l.draft-index l.code)

@@ -1,0 +1,9 @@
+use Rattle.py_templates.specs.Expressions.{value}
+use Rattle.py_emit.proofs.StmtArms.{assert_with_arm}
+use Rattle.py_emit.proofs.simple.assert_with.Goals as goal
+
+pub returns-clause-done : goal.returns-clause-done
+returns-clause-done c env = assert_with_arm c.args.line env (value c.args.names.now c.args.line c.args.x.now)
+    (value c.args.names.now c.args.line c.args.m.now) c.in_ok-base.base c.args.e.now _ _ _ _ _
+    c.in_ok-base.ensures.base (c.in_ok-base.ensures.done env) c.in_ok-expression.ensures.done c.in_ok-put.ensures.done
+    c.in_ok-put-2.ensures.done c.mark.ensures.done

@@ -1,0 +1,10 @@
+pub mod Template
+pub mod Table
+pub mod Names
+pub mod Expressions
+pub mod Statements
+pub mod Uses
+pub mod Whole
+pub mod Compiles
+pub mod Resolved
+pub mod inner

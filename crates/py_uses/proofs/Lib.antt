@@ -1,0 +1,5 @@
+mod Told
+mod Tallying
+mod UsedStatements
+pub mod ModuleUses
+pub mod Gathers
