@@ -1,3 +1,2 @@
 mod Pairs
 mod Holding
-mod Ordered

@@ -1,7 +1,5 @@
 -- What the measures know of the record that they work on. States `docs/HEAP.md`, "Records" and "Views".
-use Rattle.std.specs.Prelude.{◌≡◌, ℕ, zero, suc, pos, List, [], ◌∷◌, length, Some}
-use Rattle.py_data.specs.declared.value.Value.{Value}
-use Rattle.py_data.specs.declared.value.Value.TheVariants.{Int}
+use Rattle.std.specs.Prelude.{◌≡◌, ℕ, length, Some}
 use Rattle.py_base.specs.declared.kind.Kind.{Kind}
 use Rattle.py_data.specs.Heap.{Rec}
 use Rattle.py_data.specs.Sense.{Sense, IsLive}
@@ -17,8 +15,3 @@ pub record HoldsRecord {S X : Type 0} (u : Sense S X) (k : Kind) (a n : ℕ) (v 
 -- a record of some kind
 abbrev pub Holds : {S X : Type 0} → Sense S X → ℕ → ℕ → X → Type 0
 Holds u a n v = (k : Kind) × HoldsRecord u k a n v
-
--- pairs of so many numbers from i on, each with 0
-abbrev pub pairs_from : ℕ → ℕ → List Value
-pairs_from i zero = []
-pairs_from i (suc n) = Int (pos i) ∷ Int (pos 0) ∷ pairs_from (suc i) n

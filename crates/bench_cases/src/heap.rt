@@ -1,13 +1,14 @@
 //! What is measured of a heap, over any view. Each change is a step of its own.
-ghost use Rattle.std.specs.Prelude.{◌≡◌, ◌+◌, ◌*◌, ◌<◌, ◌≤◌, length, IfOk, []};
+ghost use Rattle.std.specs.Prelude.{◌+◌, ◌*◌, ◌<◌, ◌≤◌, length, IfOk, []};
 ghost use Rattle.py_data.specs.declared.record.TheConstants.{LENGTH_LIMIT};
 ghost use Rattle.py_base.specs.declared.kind.Kind.TheVariants.{List as ListKind, Dict};
 ghost use Rattle.py_data.specs.Heap.{Heap, new_rec};
 ghost use Rattle.py_data.specs.Row.{Make};
 ghost use Rattle.py_data.specs.Sense.{Asks};
-ghost use Rattle.bench_cases.specs.Holds.{HoldsRecord, Holds, pairs_from};
+ghost use Rattle.bench_cases.specs.Holds.{HoldsRecord, Holds};
 
-use py_data::{Addr, Bytes, Kind, LENGTH_LIMIT, NoMemory, Record, Stop, Value, Values, View};
+use obj_bench::pairs::zero_pairs;
+use py_data::{Addr, Bytes, Kind, LENGTH_LIMIT, Record, Stop, Value, Values, View};
 use std::alloc::Global;
 
 /// Makes a record.
@@ -62,18 +63,6 @@ fn sum<S, V: View<S>>(v: &mut V, a: Addr, n: usize) -> Result<i64, Stop>
     Ok(sum)
 }
 
-/// Pairs of the numbers from 0 on, each with 0.
-fn pairs(alloc: Global, n: u32) -> Result<Values, NoMemory>
-    ensures { IfOk result (λ vs. vs ≡ pairs_from 0 n) }
-{
-    let mut values = Values::new(alloc);
-    for k in 0..n {
-        values.push(Value::Int(i64::from(k)))?;
-        values.push(Value::Int(0))?;
-    }
-    Ok(values)
-}
-
 /// So many appends to one list.
 pub fn appends<S, V: View<S>>(alloc: Global, v: &mut V, count: u32) -> Result<i64, Stop>
     requires { count ≤ LENGTH_LIMIT }
@@ -89,7 +78,7 @@ pub fn appends<S, V: View<S>>(alloc: Global, v: &mut V, count: u32) -> Result<i6
 pub fn changes<S, V: View<S>>(alloc: Global, v: &mut V, count: u32) -> Result<i64, Stop>
     requires { 2 * count ≤ LENGTH_LIMIT }
 {
-    let values = pairs(alloc, count)?;
+    let values = zero_pairs(alloc, count)?;
     let dict = make(alloc, v, Kind::Dict, values)?;
     for place in 0..count {
         change(v, dict, count, place)?;

@@ -1,297 +1,142 @@
-//! What is measured of operators, a method and a text, over any view of a whole heap that is in order. The operands are
-//! the values of a stack.
-ghost use Rattle.std.specs.Prelude.{◌≡◌, ◌+◌, ◌*◌, ◌<◌, ◌≤◌, ℕ, length, IfOk, IfSome, []};
-ghost use Rattle.py_data.specs.declared.value.Value.TheVariants.{Ref};
-ghost use Rattle.py_data.specs.declared.record.TheConstants.{LENGTH_LIMIT};
-ghost use Rattle.py_data.specs.Answers.{IsAnswer};
-ghost use Rattle.py_data.specs.Closed.{IsItem};
-ghost use Rattle.py_data.specs.Every.{Every};
-ghost use Rattle.py_data.specs.Heap.{Heap};
-ghost use Rattle.py_data.specs.Made.{rec_of};
-ghost use Rattle.py_data.specs.Order.{FitsAt};
-ghost use Rattle.obj_str.specs.HoldsLaws.{IsStrAt};
-ghost use Rattle.bench_cases.specs.Ordered.{free, Good, GoodWith, Ready};
+//! What is measured of operators, a method and a text, as words over a bench.
+ghost use Rattle.std.specs.Prelude.{IfOk};
+ghost use Rattle.obj_bench.specs.Bench.{Good, Ready};
 
-use obj_class::make_roots;
-use obj_ops::{binary, compare, text};
-use obj_str::str_method;
-use py_base::builtin::STR_JOIN;
-use py_base::{operator, skip};
-use py_data::{Addr, Bytes, Got, Kind, NoMemory, Record, Stop, Value, Values, View};
+use obj_bench::calling::method;
+use obj_bench::calls::size_at;
+use obj_bench::looking::shown;
+use obj_bench::operators::operated;
+use obj_bench::stacking::{Leaf, pick, push_leaf, text, times};
+use obj_bench::state::{Bench, Halt, fresh};
+use py_data::{Bytes, NoMemory, Stop, Value, View};
 use std::alloc::Global;
 
-/// Makes the list of roots.
-fn rooted<S, V: View<S>>(alloc: Global, v: &mut V) -> Result<Addr, Stop>
-    requires { Ready V.sense v.old }
-    ensures { IfOk result (λ a. Good V.sense a.0 [] v.new) }
-{
-    let roots = make_roots(alloc, v)?;
-    Ok(roots)
-}
-
-/// Makes a record that fits, which goes onto the stack.
-fn with_record<S, V: View<S>>(
-    v: &mut V,
-    roots: Addr,
-    mut stack: Values,
-    r: &Record,
-) -> Result<Values, Stop>
-    requires good { Good V.sense roots.0 stack v.old }
-    requires fits { (a : ℕ) → FitsAt free (V.sense.heap v.old) a (rec_of r.now) }
-    ensures good { IfOk result (λ s. Good V.sense roots.0 s v.new) }
-    ensures count { IfOk result (λ s. length s ≡ length stack + 1) }
-{
-    let a = v.make(r)?;
-    stack.push(Value::Ref(a))?;
-    Ok(stack)
-}
-
-/// So many times a value.
-fn copies(alloc: Global, x: Value, n: u32) -> Result<Values, NoMemory>
-    ensures count { IfOk result (λ vs. length vs ≡ n) }
-    ensures items { IfOk result (λ vs. (h : Heap) → IsItem h x → Every (IsItem h) vs) }
-{
-    let mut values = Values::new(alloc);
-    for i in 0..n {
-        values.push(x)?;
-    }
-    Ok(values)
-}
-
-/// A new list of so many times a value.
-fn with_list<S, V: View<S>>(
-    alloc: Global,
-    v: &mut V,
-    roots: Addr,
-    stack: Values,
-    x: Value,
-    n: u32,
-) -> Result<Values, Stop>
-    requires good { Good V.sense roots.0 stack v.old }
-    requires item { IsItem (V.sense.heap v.old) x }
-    requires limit { n ≤ LENGTH_LIMIT }
-    ensures good { IfOk result (λ s. Good V.sense roots.0 s v.new) }
-    ensures count { IfOk result (λ s. length s ≡ length stack + 1) }
-{
-    let r = Record {
-        kind: Kind::List,
-        values: copies(alloc, x, n)?,
-        bytes: Bytes::new(alloc),
-    };
-    with_record(v, roots, stack, &r)
+/// An operation that is measured, over so many values or bytes.
+#[derive(Clone, Copy, Debug, Drop)]
+pub(crate) enum Operation {
+    /// `+` of two lists of so many numbers.
+    ListSum,
+    /// `+` of two strings of so many bytes.
+    TextSum,
+    /// `join` of so many strings of one byte, with a string of one byte between them.
+    Join,
+    /// `repr` of a list of so many numbers.
+    Text,
+    /// `in` of a part that doesn't stand in so many bytes: half as many of the same byte, and then another one.
+    Search,
 }
 
 /// So many times a byte.
-fn letters(alloc: Global, letter: u8, n: u32) -> Result<Bytes, NoMemory>
-    ensures { IfOk result (λ bs. length bs ≡ n) }
-{
+fn letters(alloc: Global, letter: u8, n: u32) -> Result<Bytes, NoMemory> {
     let mut bytes = Bytes::new(alloc);
-    for i in 0..n {
+    for _ in 0..n {
         bytes.push(letter)?;
     }
     Ok(bytes)
 }
 
-/// A new string.
-fn with_bytes<S, V: View<S>>(
-    alloc: Global,
-    v: &mut V,
-    roots: Addr,
-    stack: Values,
-    bytes: Bytes,
-) -> Result<Values, Stop>
-    requires good { Good V.sense roots.0 stack v.old }
-    requires limit { length bytes ≤ LENGTH_LIMIT }
-    ensures good { IfOk result (λ s. Good V.sense roots.0 s v.new) }
-    ensures count { IfOk result (λ s. length s ≡ length stack + 1) }
+/// The count of the values or the bytes of the top value, 1 for True, and 0 for all else.
+fn size<V: View<u8> + Drop>(bench: Bench<V>) -> Result<i64, Halt>
+    requires { Good V.sense bench.roots.0 bench.stack bench.view }
 {
-    let r = Record {
-        kind: Kind::Str,
-        values: Values::new(alloc),
-        bytes,
-    };
-    with_record(v, roots, stack, &r)
-}
-
-/// The kind of a record.
-fn kind_of<S, V: View<S>>(v: &mut V, roots: Addr, stack: &Values, a: Addr) -> Result<Kind, Stop>
-    requires good { Good V.sense roots.0 stack.now v.old }
-    requires there { IsItem (V.sense.heap v.old) (Ref a) }
-    ensures good { IfOk result (λ _. Good V.sense roots.0 stack.now v.new) }
-    ensures there { IfOk result (λ _. IsItem (V.sense.heap v.new) (Ref a)) }
-{
-    let kind = v.kind(a)?;
-    Ok(kind)
-}
-
-/// The count of a string's bytes.
-fn text_size<S, V: View<S>>(v: &mut V, roots: Addr, stack: &Values, a: Addr) -> Result<i64, Stop>
-    requires good { Good V.sense roots.0 stack.now v.old }
-    requires there { IsItem (V.sense.heap v.old) (Ref a) }
-{
-    let n = v.byte_len(a)?;
-    Ok(n as i64)
-}
-
-/// The count of a record's values.
-fn record_size<S, V: View<S>>(v: &mut V, roots: Addr, stack: &Values, a: Addr) -> Result<i64, Stop>
-    requires good { Good V.sense roots.0 stack.now v.old }
-    requires there { IsItem (V.sense.heap v.old) (Ref a) }
-{
-    let n = v.len(a)?;
-    Ok(n as i64)
-}
-
-/// The count of a record's values, or of a string's bytes.
-fn count_of<S, V: View<S>>(v: &mut V, roots: Addr, stack: &Values, a: Addr) -> Result<i64, Stop>
-    requires good { Good V.sense roots.0 stack.now v.old }
-    requires there { IsItem (V.sense.heap v.old) (Ref a) }
-{
-    match kind_of(v, roots, stack, a)? {
-        Kind::Str => text_size(v, roots, stack, a),
-        _ => record_size(v, roots, stack, a),
+    let Bench {
+        mut view,
+        roots,
+        stack,
+        ..
+    } = bench;
+    let n = stack.len();
+    if n < 1 {
+        return Err(Halt::Bad);
     }
-}
-
-/// The count of an answer's values or bytes, 1 for True, and 0 for all else.
-fn size<S, V: View<S>>(v: &mut V, roots: Addr, stack: &Values, got: Got<Value>) -> Result<i64, Stop>
-    requires { GoodWith V.sense roots.0 IsAnswer stack.now got v.old }
-{
-    match got {
-        Got::Is(Value::Ref(a)) => count_of(v, roots, stack, a),
-        Got::Is(Value::Bool(true)) => Ok(1),
-        _ => Ok(0),
+    if stack.at(n - 1) == Value::Bool(true) {
+        return Ok(1);
     }
-}
-
-/// `x + x` of the first value of the stack.
-fn doubled<S, V: View<S>>(
-    alloc: Global,
-    v: &mut V,
-    roots: Addr,
-    stack: &Values,
-) -> Result<i64, Stop>
-    requires good { Good V.sense roots.0 stack.now v.old }
-    requires some { 0 < length stack.now }
-{
-    let x = stack.at(0);
-    let got = binary(alloc, v, roots, operator::binary::ADD, x, x)?;
-    size(v, roots, stack, got)
-}
-
-/// `x in y` of the two values of the stack.
-fn searched<S, V: View<S>>(
-    alloc: Global,
-    v: &mut V,
-    roots: Addr,
-    stack: &Values,
-) -> Result<i64, Stop>
-    requires good { Good V.sense roots.0 stack.now v.old }
-    requires both { 1 < length stack.now }
-{
-    let got = compare(alloc, v, operator::compare::IN, stack.at(0), stack.at(1))?;
-    size(v, roots, stack, got)
-}
-
-/// `a.join(x)` of the string that is the first value of the stack and of the second value.
-fn joined<S, V: View<S>>(
-    alloc: Global,
-    v: &mut V,
-    roots: Addr,
-    stack: &Values,
-    a: Addr,
-) -> Result<i64, Stop>
-    requires good { Good V.sense roots.0 stack.now v.old }
-    requires string { IsStrAt (V.sense.heap v.old) a.0 }
-{
-    let got = str_method(alloc, v, STR_JOIN, a, skip(stack.as_slice(), 1))?;
-    size(v, roots, stack, got)
-}
-
-/// The string that the first value of the stack refers to, if it is one.
-fn first_text<S, V: View<S>>(v: &mut V, roots: Addr, stack: &Values) -> Result<Option<Addr>, Stop>
-    requires good { Good V.sense roots.0 stack.now v.old }
-    requires some { 0 < length stack.now }
-    ensures good { IfOk result (λ _. Good V.sense roots.0 stack.now v.new) }
-    ensures string { IfOk result (λ o. IfSome o (λ a. IsStrAt (V.sense.heap v.new) a.0)) }
-{
-    match stack.at(0) {
-        Value::Ref(a) => match v.kind(a)? {
-            Kind::Str => Ok(Some(a)),
-            _ => Ok(None),
-        },
-        _ => Ok(None),
-    }
-}
-
-/// How many bytes the text of the first value of the stack has.
-fn shown<S, V: View<S>>(alloc: Global, v: &mut V, roots: Addr, stack: &Values) -> Result<i64, Stop>
-    requires good { Good V.sense roots.0 stack.now v.old }
-    requires some { 0 < length stack.now }
-{
-    match text(alloc, v, roots, stack.at(0), true)? {
-        Got::Is(bytes) => Ok(bytes.len() as i64),
-        Got::Raise(_) => Ok(0),
-    }
-}
-
-/// `+` of two lists of so many numbers.
-pub fn list_sums<S, V: View<S>>(alloc: Global, v: &mut V, count: u32) -> Result<i64, Stop>
-    requires good { Ready V.sense v.old }
-    requires limit { 2 * count ≤ LENGTH_LIMIT }
-{
-    let roots = rooted(alloc, v)?;
-    let stack = with_list(alloc, v, roots, Values::new(alloc), Value::Int(7), count)?;
-    doubled(alloc, v, roots, &stack)
-}
-
-/// `+` of two strings of so many bytes.
-pub fn text_sums<S, V: View<S>>(alloc: Global, v: &mut V, count: u32) -> Result<i64, Stop>
-    requires good { Ready V.sense v.old }
-    requires limit { 2 * count ≤ LENGTH_LIMIT }
-{
-    let roots = rooted(alloc, v)?;
-    let bytes = letters(alloc, b'a', count)?;
-    let stack = with_bytes(alloc, v, roots, Values::new(alloc), bytes)?;
-    doubled(alloc, v, roots, &stack)
-}
-
-/// `join` of so many strings of one byte, with a string of one byte between them.
-pub fn joins<S, V: View<S>>(alloc: Global, v: &mut V, count: u32) -> Result<i64, Stop>
-    requires good { Ready V.sense v.old }
-    requires limit { 2 * count ≤ LENGTH_LIMIT }
-{
-    let roots = rooted(alloc, v)?;
-    let bytes = letters(alloc, b'a', 1)?;
-    let stack = with_bytes(alloc, v, roots, Values::new(alloc), bytes)?;
-    let first = stack.at(0);
-    let stack = with_list(alloc, v, roots, stack, first, count)?;
-    match first_text(v, roots, &stack)? {
-        Some(a) => joined(alloc, v, roots, &stack, a),
+    match size_at(&mut view, roots, &stack, n - 1)? {
+        Some(size) => Ok(size as i64),
         None => Ok(0),
     }
 }
 
-/// `repr` of a list of so many numbers.
-pub fn texts<S, V: View<S>>(alloc: Global, v: &mut V, count: u32) -> Result<i64, Stop>
-    requires good { Ready V.sense v.old }
-    requires limit { 2 * count ≤ LENGTH_LIMIT }
+/// A list of so many numbers goes onto the stack.
+fn numbers<V: View<u8> + Drop>(bench: Bench<V>, count: u32) -> Result<Bench<V>, Halt>
+    requires { Good V.sense bench.roots.0 bench.stack bench.view }
+    ensures { IfOk result (λ b. Good V.sense b.roots.0 b.stack b.view) }
 {
-    let roots = rooted(alloc, v)?;
-    let stack = with_list(alloc, v, roots, Values::new(alloc), Value::Int(7), count)?;
-    shown(alloc, v, roots, &stack)
+    let bench = push_leaf(bench, Leaf::Int(7))?;
+    times(bench, count as usize)
 }
 
-/// `in` of a part that doesn't stand in so many bytes: half as many of the same byte, and then another one.
-pub fn searches<S, V: View<S>>(alloc: Global, v: &mut V, count: u32) -> Result<i64, Stop>
-    requires good { Ready V.sense v.old }
-    requires limit { 2 * count ≤ LENGTH_LIMIT }
+/// `x + x` of the top value.
+fn doubled<V: View<u8> + Drop>(bench: Bench<V>) -> Result<i64, Halt>
+    requires { Good V.sense bench.roots.0 bench.stack bench.view }
 {
-    let roots = rooted(alloc, v)?;
-    let mut part = letters(alloc, b'a', count / 2)?;
+    let bench = pick(bench, 0)?;
+    let bench = operated(bench, b"+")?;
+    size(bench)
+}
+
+/// `join`, as `Operation::Join` says.
+fn joined<V: View<u8> + Drop>(bench: Bench<V>, count: u32) -> Result<i64, Halt>
+    requires { Good V.sense bench.roots.0 bench.stack bench.view }
+{
+    let bytes = letters(bench.alloc, b'a', 1)?;
+    let bench = text(bench, bytes)?;
+    let bench = pick(bench, 0)?;
+    let bench = times(bench, count as usize)?;
+    let bench = method(bench, b"join", 1)?;
+    size(bench)
+}
+
+/// `in`, as `Operation::Search` says.
+fn searched<V: View<u8> + Drop>(bench: Bench<V>, count: u32) -> Result<i64, Halt>
+    requires { Good V.sense bench.roots.0 bench.stack bench.view }
+{
+    let mut part = letters(bench.alloc, b'a', count / 2)?;
     part.push(b'b')?;
-    let all = letters(alloc, b'a', count)?;
-    let stack = with_bytes(alloc, v, roots, Values::new(alloc), part)?;
-    let stack = with_bytes(alloc, v, roots, stack, all)?;
-    searched(alloc, v, roots, &stack)
+    let all = letters(bench.alloc, b'a', count)?;
+    let bench = text(bench, part)?;
+    let bench = text(bench, all)?;
+    let bench = operated(bench, b"in")?;
+    size(bench)
+}
+
+/// Does an operation over so many values or bytes.
+fn done<V: View<u8> + Drop>(bench: Bench<V>, operation: Operation, count: u32) -> Result<i64, Halt>
+    requires { Good V.sense bench.roots.0 bench.stack bench.view }
+{
+    match operation {
+        Operation::ListSum => {
+            let bench = numbers(bench, count)?;
+            doubled(bench)
+        }
+        Operation::TextSum => {
+            let bytes = letters(bench.alloc, b'a', count)?;
+            let bench = text(bench, bytes)?;
+            doubled(bench)
+        }
+        Operation::Join => joined(bench, count),
+        Operation::Text => {
+            let bench = numbers(bench, count)?;
+            Ok(shown(bench)?.len() as i64)
+        }
+        Operation::Search => searched(bench, count),
+    }
+}
+
+/// What an operation over so many values or bytes comes to, and 0 where it raises an exception.
+pub(crate) fn done_over<V: View<u8> + Drop>(
+    alloc: Global,
+    view: V,
+    operation: Operation,
+    count: u32,
+) -> Result<i64, Stop>
+    requires { Ready V.sense view }
+{
+    let bench = fresh(alloc, view)?;
+    match done(bench, operation, count) {
+        Ok(sum) => Ok(sum),
+        Err(Halt::Stopped(stop)) => Err(stop),
+        Err(_) => Ok(0),
+    }
 }

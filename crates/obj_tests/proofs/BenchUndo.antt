@@ -15,7 +15,7 @@ use Rattle.py_data.specs.Sense.{Sense, Bracket, IsBracket, Stopped, Meets}
 use Rattle.py_data.proofs.Whole.{upto_steps, stopped_at}
 use Rattle.obj_seq.specs.HoldsLaws.{IsListAt}
 use Rattle.obj_class.specs.Roots.{IsRoots}
-use Rattle.obj_tests.specs.Bench.{free, Good}
+use Rattle.obj_bench.specs.Bench.{free, Good}
 
 -- the length of a list is the count of its values
 pub list_length : (h : Heap) (a : ℕ) → IsListAt h a → length_of (at h a) ≡ length (at h a).values

@@ -1,4 +1,1 @@
-mod BenchSteps
-mod BenchClasses
-mod BenchPairs
 mod BenchUndo

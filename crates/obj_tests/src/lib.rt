@@ -1,6 +1,15 @@
-//! The operations on lists, tuples, dictionaries and iterators, tried over a plain view. It has tests alone: they cross
-//! the crates of operations and that of the one-lock machine.
+//! The operations on objects, tried over a plain view as rows of a bench. It has tests alone.
 #![tactic(auto)]
 
 #[cfg(test)]
-mod bench;
+mod growth;
+#[cfg(test)]
+mod input;
+#[cfg(test)]
+mod limits;
+#[cfg(test)]
+mod rows;
+#[cfg(test)]
+mod tables;
+#[cfg(test)]
+mod walks;

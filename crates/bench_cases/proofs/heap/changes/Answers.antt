@@ -1,7 +1,8 @@
 use Rattle.std.proofs.Common.{◌≡◌, ◌∙◌, ◌*◌, ap, length, subst}
 use Rattle.py_base.specs.declared.kind.Kind.TheVariants.{Dict}
 use Rattle.bench_cases.specs.Holds.{HoldsRecord}
-use Rattle.bench_cases.proofs.Pairs.{dict_asks, pairs_length}
+use Rattle.obj_bench.proofs.BenchPairs.{pairs_length}
+use Rattle.bench_cases.proofs.Pairs.{dict_asks}
 use Rattle.bench_cases.proofs.heap.changes.Goals as goal
 
 pub make-requires : goal.make-requires

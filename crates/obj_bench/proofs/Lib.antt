@@ -1,0 +1,3 @@
+pub mod BenchSteps
+mod BenchClasses
+pub mod BenchPairs

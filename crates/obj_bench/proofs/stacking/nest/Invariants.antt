@@ -1,0 +1,5 @@
+use Rattle.obj_bench.specs.Bench.{Good}
+use Rattle.obj_bench.proofs.stacking.nest.Given as goal
+
+abbrev pub invariant-loop : goal.invariant-loop
+invariant-loop g l = Good g.V.View.sense l.bench.roots.0 l.bench.stack l.bench.view

@@ -1,5 +1,0 @@
-use Rattle.obj_tests.proofs.BenchSteps.{kind_asks}
-use Rattle.obj_tests.proofs.bench.calls.text_size.Goals as goal
-
-pub byte_len-requires-clause-there : goal.byte_len-requires-clause-there
-byte_len-requires-clause-there g c = kind_asks c.requires.good _ _ c.requires.at

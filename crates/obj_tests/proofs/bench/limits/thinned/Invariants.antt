@@ -1,5 +1,0 @@
-use Rattle.obj_tests.specs.Bench.{Good}
-use Rattle.obj_tests.proofs.bench.limits.thinned.Given as goal
-
-abbrev pub invariant-loop-k : goal.invariant-loop-k
-invariant-loop-k g l = Good g.V.View.sense l.bench.roots.0 l.bench.stack l.bench.view

@@ -1,0 +1,6 @@
+use Rattle.std.proofs.Common.{refl}
+use Rattle.obj_bench.proofs.BenchSteps.{ready_empty}
+use Rattle.obj_tests.proofs.limits.insert_answer.Goals as goal
+
+pub started-requires : goal.started-requires
+started-requires g c = ready_empty _ _ refl c.plain.ensures.live c.plain.ensures.heap
