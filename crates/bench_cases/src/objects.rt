@@ -8,7 +8,7 @@ use obj_bench::looking::shown;
 use obj_bench::operators::operated;
 use obj_bench::stacking::{Leaf, pick, push_leaf, text, times};
 use obj_bench::state::{Bench, Halt, fresh};
-use py_data::{Bytes, NoMemory, Stop, Value, View};
+use py_data::{Bytes, LENGTH_LIMIT, NoMemory, Stop, Value, View};
 use std::alloc::Global;
 
 /// An operation that is measured, over so many values or bytes.
@@ -53,8 +53,8 @@ fn size<V: View<u8> + Drop>(bench: Bench<V>) -> Result<i64, Halt>
         return Ok(1);
     }
     match size_at(&mut view, roots, &stack, n - 1)? {
-        Some(size) => Ok(size as i64),
-        None => Ok(0),
+        Some(size) if size <= LENGTH_LIMIT => Ok(size as i64),
+        _ => Ok(0),
     }
 }
 
@@ -118,7 +118,8 @@ fn done<V: View<u8> + Drop>(bench: Bench<V>, operation: Operation, count: u32) -
         Operation::Join => joined(bench, count),
         Operation::Text => {
             let bench = numbers(bench, count)?;
-            Ok(shown(bench)?.len() as i64)
+            let text = shown(bench)?;
+            Ok(text.len() as i64)
         }
         Operation::Search => searched(bench, count),
     }
