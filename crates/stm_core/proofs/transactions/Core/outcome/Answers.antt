@@ -1,5 +1,5 @@
 use Rattle.std.proofs.Common.{Some, None, ◌∙◌, ap, inl, inr, sym, subst, ◌<◌}
-use Rattle.stm_core.specs.Books.{transaction, segment_of, core_of}
+use Rattle.stm_segment.specs.Books.{transaction, segment_of, core_of}
 use Rattle.stm_core.specs.Standing.{IsAtRest, IsNext, IsOutcome}
 use Rattle.stm_core.specs.declared.standing.RunState.TheVariants.{Running, Done, Stuck, Spent}
 use Rattle.stm_core.proofs.Standings.{some_running, at_rest, all_wait, some_ready}
