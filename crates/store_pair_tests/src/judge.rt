@@ -4,6 +4,7 @@ use std::process::Abort;
 use store_bench::Insists;
 
 /// A handle that ends the test where something that is insisted on isn't so.
+#[derive(Drop)]
 pub struct Judge<R: Abort>(pub R);
 
 impl<R: Abort> Insists for Judge<R> {
