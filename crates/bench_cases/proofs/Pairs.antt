@@ -1,5 +1,5 @@
 -- A dictionary of pairs of numbers, or an empty list, may be made over each view.
-use Rattle.std.proofs.Common.{◌≡◌, ℕ, zero, suc, ◌*◌, ◌≤◌, Bool, true, false, List, [], sym, subst, arith}
+use Rattle.std.proofs.Common.{◌≡◌, ℕ, zero, suc, ◌*◌, ◌≤◌, Bool, true, false, List, [], refl, sym, subst, arith}
 use Rattle.py_data.specs.declared.value.Value.{Value}
 use Rattle.py_base.specs.declared.kind.Kind.TheVariants.{List as ListKind, Dict}
 use Rattle.py_data.specs.Heap.{Heap, new_rec}
