@@ -8,8 +8,6 @@ ghost use Rattle.py_parser.specs.inner.Suites.{AnswersStatements, inner_block, p
 ghost use Rattle.py_grammar.specs.inner.Tall.{tree_or};
 
 use crate::header::{base, caught, loop_target, parameters};
-use crate::simple_line::line;
-use crate::statement::tree_or;
 use py_atoms::cursor::{
     Read, dedent_next, indent_next, keyword_next, line_of, newline_next, op_next, refused, rest,
     take_keyword, take_name, take_op,
@@ -19,6 +17,8 @@ use py_atoms::{ParseError, Request, TEST, TESTS};
 use py_base::{Construct, split};
 use py_exprs::expression::expression;
 use py_grammar::{Fault, Tall};
+use py_lines::simple_line::line;
+use py_lines::statement::tree_or;
 use py_tokens::{Token, TokenKind, keyword, operator};
 use py_tree::{Arm, Clause, Expr, Handler, Stmt};
 use sqlite_items::Items;

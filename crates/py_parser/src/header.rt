@@ -6,14 +6,14 @@ ghost use Rattle.py_grammar.specs.inner.Aiming.{readers};
 ghost use Rattle.py_parser.specs.inner.Suites.{parameters_at};
 ghost use Rattle.py_grammar.specs.inner.Tall.{start};
 
-use crate::statement::maybe;
-use crate::target::{TargetPlace, target};
 use py_atoms::cursor::{Read, comes, keyword_next, op_next, refused, rest, take_name, take_op};
 use py_atoms::tall::{HEIGHT_LIMIT, push, start};
 use py_atoms::{Request, TARGET, TEST, node, star_next};
 use py_base::Construct;
 use py_exprs::expression::expression;
 use py_grammar::{Fault, Tall};
+use py_lines::statement::maybe;
+use py_lines::target::{TargetPlace, target};
 use py_tokens::{Token, keyword, operator};
 use py_tree::{Expr, Param};
 use sqlite_items::Items;

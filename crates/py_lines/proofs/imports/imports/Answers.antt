@@ -1,9 +1,9 @@
 use Rattle.std.proofs.Common.{arith}
 use Rattle.std.proofs.lemmas.Grind.{common_steps}
-use Rattle.py_parser.specs.inner.SimplePieces.{may_import}
+use Rattle.py_lines.specs.inner.SimplePieces.{may_import}
 use Rattle.py_grammar.specs.inner.Lines.{imports_at}
 use Rattle.py_grammar.proofs.Turns.{one_more}
-use Rattle.py_parser.proofs.imports.imports.Goals as goal
+use Rattle.py_lines.proofs.imports.imports.Goals as goal
 
 pub returns-in_err-next : goal.returns-in_err-next
 unfolding imports_at

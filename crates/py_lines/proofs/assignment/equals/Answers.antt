@@ -3,7 +3,7 @@ use Rattle.std.proofs.lemmas.Grind.{common_steps}
 use Rattle.py_grammar.specs.inner.Aiming.{readers}
 use Rattle.py_grammar.specs.inner.Lines.{equals_at}
 use Rattle.py_grammar.proofs.Turns.{one_more}
-use Rattle.py_parser.proofs.assignment.equals.Goals as goal
+use Rattle.py_lines.proofs.assignment.equals.Goals as goal
 
 pub returns-in_err-check_target : goal.returns-in_err-check_target
 unfolding equals_at

@@ -4,7 +4,7 @@ ghost use Rattle.py_atoms.specs.inner.Outcome.{Gives};
 ghost use Rattle.py_grammar.specs.inner.Aiming.{readers};
 ghost use Rattle.py_grammar.specs.inner.Reading.{first};
 ghost use Rattle.py_grammar.specs.inner.Lines.{checked, target_at, targets_at};
-ghost use Rattle.py_parser.specs.inner.Stops.{stop_of};
+ghost use Rattle.py_lines.specs.inner.Stops.{stop_of};
 ghost use Rattle.py_grammar.specs.inner.Tall.{start};
 
 use py_atoms::ParseError;
@@ -50,7 +50,7 @@ fn follows(place: TargetPlace, tokens: &[Token]) -> bool
 /// Refuses what is no target: an expression that was read, with the tokens after it. A slice is left out where these
 /// may follow a target; all else is unexpected.
 #[tactic(auto, unfolding(py_grammar::specs::inner::Lines::checked))]
-pub fn check_target(
+pub(crate) fn check_target(
     place: TargetPlace,
     target: &Tall<Expr>,
     tokens: &[Token],
@@ -85,7 +85,7 @@ pub fn target<'a>(
 
 /// Further targets of `del` after the first, each after a comma.
 #[tactic(auto, unfolding(py_grammar::specs::inner::Lines::targets_at))]
-pub fn targets<'a>(
+pub(crate) fn targets<'a>(
     alloc: Global,
     turns: usize,
     budget: usize,

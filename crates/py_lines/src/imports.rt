@@ -3,7 +3,7 @@ ghost use Rattle.std.specs.Prelude.{◌≡◌, [], ◌∷◌, codes};
 ghost use Rattle.std.specs.Str.{bytes_eq};
 ghost use Rattle.py_grammar.specs.inner.Lines.{import_name_at, renamed_at, imported_at, imports_at, from_at};
 ghost use Rattle.py_atoms.specs.inner.Outcome.{Gives};
-ghost use Rattle.py_parser.specs.inner.SimplePieces.{may_import, import_at};
+ghost use Rattle.py_lines.specs.inner.SimplePieces.{may_import, import_at};
 ghost use Rattle.py_grammar.specs.Words.{is_module, is_member};
 
 use py_atoms::cursor::{Read, keyword_next, op_next, refused, rest, take_keyword, take_name};

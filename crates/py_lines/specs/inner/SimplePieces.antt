@@ -3,8 +3,8 @@
 use Rattle.std.specs.Prelude.{ℕ, List, [], ◌∷◌, Ok, if◌then◌else◌, Bool, None}
 use Rattle.py_tree.specs.declared.stmt.Stmt.{Stmt}
 use Rattle.py_tree.specs.declared.stmt.Stmt.TheVariants as s
-use Rattle.py_parser.specs.declared.imports.Importable.{Importable}
-use Rattle.py_parser.specs.declared.imports.Importable.TheVariants.{Module, Member}
+use Rattle.py_lines.specs.declared.imports.Importable.{Importable}
+use Rattle.py_lines.specs.declared.imports.Importable.TheVariants.{Module, Member}
 use Rattle.py_grammar.specs.inner.Tall.{start, tree_or}
 use Rattle.py_grammar.specs.Words.{is_module, is_member}
 use Rattle.py_grammar.specs.inner.Reading.{Reader, ◌>>=◌, first, comes, name_at}

@@ -3,7 +3,7 @@ use Rattle.std.proofs.lemmas.Grind.{common_steps}
 use Rattle.py_grammar.specs.inner.Aiming.{readers}
 use Rattle.py_grammar.specs.inner.Lines.{simple_at, line_more}
 use Rattle.py_grammar.proofs.Turns.{one_more}
-use Rattle.py_parser.proofs.simple_line.line_more.Goals as goal
+use Rattle.py_lines.proofs.simple_line.line_more.Goals as goal
 
 pub returns-then-newline_next : goal.returns-then-newline_next
 unfolding line_more

@@ -3,7 +3,7 @@ ghost use Rattle.std.specs.Prelude.{◌≡◌, ◌-◌, ◌<◌, ◌≤◌, [], 
 ghost use Rattle.py_grammar.specs.inner.Lines.{maybe_at, names_at, print_at, raise_at, assert_at, worded_at, running_at, simple_at};
 ghost use Rattle.py_atoms.specs.inner.Outcome.{Gives};
 ghost use Rattle.py_grammar.specs.inner.Aiming.{readers};
-ghost use Rattle.py_parser.specs.inner.SimplePieces.{return_at, raise_or_none_at, del_at, global_at, assert_test_at};
+ghost use Rattle.py_lines.specs.inner.SimplePieces.{return_at, raise_or_none_at, del_at, global_at, assert_test_at};
 ghost use Rattle.py_grammar.specs.inner.Tall.{tree_or};
 
 use crate::assignment::running;
@@ -250,7 +250,12 @@ fn worded<'a>(
 
 /// A simple statement of a height of at most `budget`.
 #[tactic(auto, unfolding(py_grammar::specs::inner::Lines::simple_at))]
-pub fn simple<'a>(alloc: Global, turns: usize, budget: usize, tokens: &'a [Token]) -> Read<'a, Stmt>
+pub(crate) fn simple<'a>(
+    alloc: Global,
+    turns: usize,
+    budget: usize,
+    tokens: &'a [Token],
+) -> Read<'a, Stmt>
     requires small { budget ≤ HEIGHT_LIMIT }
     requires above { 0 < budget }
     ensures { Gives (λ x. (x.0, x.1.now)) result (simple_at (readers turns (budget - 1)) turns budget tokens.now) }

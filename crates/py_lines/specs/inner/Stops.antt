@@ -1,7 +1,7 @@
 -- The mirror of the code: nothing public rests on it.
 -- What may follow a target, by where it stands.
-use Rattle.py_parser.specs.declared.target.TargetPlace.{TargetPlace}
-use Rattle.py_parser.specs.declared.target.TargetPlace.TheVariants.{Del, For, Except, Assign}
+use Rattle.py_lines.specs.declared.target.TargetPlace.{TargetPlace}
+use Rattle.py_lines.specs.declared.target.TargetPlace.TheVariants.{Del, For, Except, Assign}
 use Rattle.py_grammar.specs.inner.Reading.{is_op}
 use Rattle.py_grammar.specs.inner.Lines.{Stop, ends_del, ends_loop, ends_caught}
 

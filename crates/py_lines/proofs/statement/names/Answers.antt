@@ -2,7 +2,7 @@ use Rattle.std.proofs.Common.{arith}
 use Rattle.std.proofs.lemmas.Grind.{common_steps}
 use Rattle.py_grammar.specs.inner.Lines.{names_at}
 use Rattle.py_grammar.proofs.Turns.{one_more}
-use Rattle.py_parser.proofs.statement.names.Goals as goal
+use Rattle.py_lines.proofs.statement.names.Goals as goal
 
 pub returns-in_err-next : goal.returns-in_err-next
 unfolding names_at

@@ -3,7 +3,7 @@ use Rattle.std.proofs.lemmas.Grind.{common_steps}
 use Rattle.py_grammar.specs.inner.Aiming.{readers}
 use Rattle.py_grammar.specs.inner.Lines.{targets_at}
 use Rattle.py_grammar.proofs.Turns.{one_more}
-use Rattle.py_parser.proofs.target.targets.Goals as goal
+use Rattle.py_lines.proofs.target.targets.Goals as goal
 
 pub returns-in_err-next : goal.returns-in_err-next
 unfolding targets_at
