@@ -1,5 +1,5 @@
 use Rattle.lock_run.specs.inner.ScriptLaws.{script_sound_first}
-use Rattle.core_tests.proofs.core_rows.core.Goals as goal
+use Rattle.core_bench.proofs.bench.core.Goals as goal
 
 pub new-requires-2-clause-first : goal.new-requires-2-clause-first
 new-requires-2-clause-first g c = script_sound_first
