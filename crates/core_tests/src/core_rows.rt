@@ -1,188 +1,35 @@
 //! Scripts on a core over a store of maps: lists of events, each with its replies, and what they leave in the image.
-ghost use Rattle.std.specs.Prelude.{◌≤◌, IfOk};
-ghost use Rattle.core_tests.specs.ScriptCore.{IsGoodScriptCore};
+ghost use Rattle.core_bench.specs.ScriptCore.{IsGoodScriptCore};
 
-use lock_run::{Act, Acts, Script};
-use py_data::{Addr, Conflict, Side, Value};
-use seg_store::{PlainStore, SegStore};
+use core_bench::{MemCore, Tested, begun, cell, committed, outcome, play, script, side, slot};
+use lock_run::Act;
+use py_data::{Conflict, Value};
+use seg_store::SegStore;
 use std::alloc::Global;
 use std::process::Abort;
 use std::test;
-use stm_core::{Advance, BeginError, Core, Event, Reply, RunState, Slot};
-use stm_io::{MemSink, MemSource};
-
-pub(crate) type Tested = Result<(), test::Fail>;
-
-pub(crate) type MemCore<'p> = Core<'p, Script, PlainStore, MemSource, MemSink, MemSink>;
-
-/// Threads with these lists of acts, over two Cells.
-pub(crate) fn script_of(rt: &impl Abort, lists: Vec<Acts>) -> Script {
-    assert!(rt; Script::fits(2, lists.as_slice()));
-    Script::new(2, lists)
-}
-
-/// Two threads with these acts, over two Cells.
-pub(crate) fn script(
-    rt: &impl Abort,
-    alloc: Global,
-    first: &[Act],
-    second: &[Act],
-) -> Result<Script, test::Fail> {
-    let mut lists = Vec::new(alloc);
-    lists.push(Acts::from_slice(alloc, first)?)?;
-    lists.push(Acts::from_slice(alloc, second)?)?;
-    Ok(script_of(rt, lists))
-}
-
-pub(crate) fn source(alloc: Global) -> MemSource {
-    MemSource::new(alloc, Vec::new(alloc), Vec::new(alloc))
-}
-
-pub(crate) fn sink(alloc: Global) -> MemSink {
-    MemSink::new(alloc, Vec::new(alloc))
-}
-
-/// A core of three segments, whose transactions have at most four steps, with this output.
-fn core<'p>(
-    rt: &impl Abort,
-    alloc: Global,
-    client: &'p Script,
-    budget: u64,
-    out: MemSink,
-) -> Result<MemCore<'p>, test::Fail>
-    ensures { IfOk result IsGoodScriptCore }
-{
-    assert!(rt; budget >= 1 && budget <= 1_000);
-    let store = PlainStore::new(alloc, 3)?;
-    match Core::new(
-        alloc,
-        client,
-        store,
-        4,
-        budget,
-        source(alloc),
-        out,
-        sink(alloc),
-    ) {
-        Ok(core) => Ok(core),
-        Err(_) => Err("no memory".into()),
-    }
-}
-
-/// Makes events, and compares their replies.
-pub(crate) fn play(
-    rt: &impl Abort,
-    core: &mut MemCore<'_>,
-    list: &[Event],
-    wanted: &[Reply],
-) -> Tested
-    requires { IsGoodScriptCore core.old }
-    ensures { IsGoodScriptCore core.new }
-{
-    let replies = core.run_events(list)?;
-    assert_eq!(rt; replies.as_slice(), wanted);
-    Ok(())
-}
-
-/// The step of thread 0, which is turn 0.
-fn first_turn(rt: &impl Abort, core: &mut MemCore<'_>) -> Tested
-    requires { IsGoodScriptCore core.old }
-    ensures { IsGoodScriptCore core.new }
-{
-    let list = [Event::Begin(0, 0), Event::Advance(0, 1), Event::Commit(0)];
-    let wanted = [
-        Reply::Begun,
-        Reply::Advanced(Advance::Ended(1)),
-        Reply::Committed(0),
-    ];
-    play(rt, core, &list, &wanted)
-}
-
-/// A core after the step of thread 0, which is turn 0.
-pub(crate) fn begun<'p>(
-    rt: &impl Abort,
-    alloc: Global,
-    client: &'p Script,
-    budget: u64,
-) -> Result<MemCore<'p>, test::Fail>
-    ensures { IfOk result IsGoodScriptCore }
-{
-    begun_over(rt, alloc, client, budget, sink(alloc))
-}
-
-/// With this output.
-pub(crate) fn begun_over<'p>(
-    rt: &impl Abort,
-    alloc: Global,
-    client: &'p Script,
-    budget: u64,
-    out: MemSink,
-) -> Result<MemCore<'p>, test::Fail>
-    ensures { IfOk result IsGoodScriptCore }
-{
-    let mut core = core(rt, alloc, client, budget, out)?;
-    first_turn(rt, &mut core)?;
-    Ok(core)
-}
-
-/// The address of a Cell, which turn 0 made.
-pub(crate) fn cell(rt: &impl Abort, core: &MemCore<'_>, cell: usize) -> Addr {
-    let Some(turn) = core.history().get(0) else {
-        panic!(rt; "no turn");
-    };
-    let Some(a) = turn.names.get(cell) else {
-        panic!(rt; "no name");
-    };
-    *a
-}
-
-/// The number in a Cell of the image.
-pub(crate) fn committed(rt: &impl Abort, core: &MemCore<'_>, place: usize) -> i64 {
-    let a = cell(rt, core, place);
-    let Some(r) = core.store().committed(a.0) else {
-        panic!(rt; "no record");
-    };
-    match r.values().first() {
-        Some(Value::Int(n)) => *n,
-        _ => panic!(rt; "no number"),
-    }
-}
+use stm_core::{Advance, BeginError, Event, Reply, RunState, Slot};
 
 /// The number in a Cell as a segment sees it.
-fn seen(rt: &impl Abort, core: &MemCore<'_>, k: u8, place: usize) -> i64 {
-    let a = cell(rt, core, place);
+fn seen(core: &MemCore<'_>, k: u8, place: usize) -> Result<i64, test::Fail> {
+    let a = cell(core, place)?;
     let Some(r) = core.store().seen(k, a.0) else {
-        panic!(rt; "no record");
+        return Err("no record".into());
     };
     match r.values().first() {
-        Some(Value::Int(n)) => *n,
-        _ => panic!(rt; "no number"),
+        Some(Value::Int(n)) => Ok(*n),
+        _ => Err("no number".into()),
     }
 }
 
 /// The numbers in both Cells of the image.
-fn committed_both(rt: &impl Abort, core: &MemCore<'_>) -> (i64, i64) {
-    (committed(rt, core, 0), committed(rt, core, 1))
+fn committed_both(core: &MemCore<'_>) -> Result<(i64, i64), test::Fail> {
+    Ok((committed(core, 0)?, committed(core, 1)?))
 }
 
 /// The numbers in both Cells as a segment sees them.
-fn seen_both(rt: &impl Abort, core: &MemCore<'_>, k: u8) -> (i64, i64) {
-    (seen(rt, core, k, 0), seen(rt, core, k, 1))
-}
-
-/// What a segment has in hand.
-pub(crate) fn slot(rt: &impl Abort, core: &MemCore<'_>, k: u8) -> Slot
-    requires { IsGoodScriptCore core.now }
-{
-    assert!(rt; k < core.store().segments());
-    core.slot(k)
-}
-
-/// How the run of a core stands.
-pub(crate) fn outcome(core: &MemCore<'_>) -> RunState
-    requires { IsGoodScriptCore core.now }
-{
-    core.outcome()
+fn seen_both(core: &MemCore<'_>, k: u8) -> Result<(i64, i64), test::Fail> {
+    Ok((seen(core, k, 0)?, seen(core, k, 1)?))
 }
 
 /// The thread that is to begin next on a core.
@@ -202,22 +49,12 @@ fn conflicts(core: &MemCore<'_>) -> usize {
     core.conflicts().len()
 }
 
-/// The side of a transaction that isn't solo.
-pub(crate) fn side(segment: u8, thread: u32, begun: u64) -> Side {
-    Side {
-        segment,
-        thread,
-        begun,
-        solo: false,
-    }
-}
-
 /// Thread 1 commits, and thread 2, which asks for what it has changed, loses.
 fn second_loses(rt: &impl Abort, core: &mut MemCore<'_>) -> Tested
     requires { IsGoodScriptCore core.old }
 {
     let lost = Conflict {
-        at: cell(rt, core, 0),
+        at: cell(core, 0)?,
         writer: side(0, 1, 1),
         other: side(1, 2, 2),
         asks: true,
@@ -237,8 +74,8 @@ fn second_loses(rt: &impl Abort, core: &mut MemCore<'_>) -> Tested
         Reply::Lost(lost),
         Reply::Committed(1),
     ];
-    play(rt, core, &list, &wanted)?;
-    assert_eq!(rt; committed(rt, core, 0), 1);
+    play(core, &list, &wanted)?;
+    assert_eq!(rt; committed(core, 0)?, 1);
     assert_eq!(rt; conflicts(core), 1);
     Ok(())
 }
@@ -247,12 +84,11 @@ fn second_loses(rt: &impl Abort, core: &mut MemCore<'_>) -> Tested
 #[test]
 fn updates_are_not_lost(rt: HostRuntime) -> Tested {
     let client = script(
-        &rt,
         rt.alloc(),
         &[Act::Look(0), Act::Set(0, 1)],
         &[Act::Look(0), Act::Set(0, 2)],
     )?;
-    let mut core = begun(&rt, rt.alloc(), &client, 1_000)?;
+    let mut core = begun(rt.alloc(), &client, 1_000)?;
     second_loses(&rt, &mut core)
 }
 
@@ -261,7 +97,7 @@ fn first_commit_dooms(rt: &impl Abort, core: &mut MemCore<'_>) -> Tested
     requires { IsGoodScriptCore core.old }
 {
     let lost = Conflict {
-        at: cell(rt, core, 0),
+        at: cell(core, 0)?,
         writer: side(0, 1, 1),
         other: side(1, 2, 2),
         asks: false,
@@ -283,9 +119,9 @@ fn first_commit_dooms(rt: &impl Abort, core: &mut MemCore<'_>) -> Tested
         Reply::Committed(1),
         Reply::Lost(lost),
     ];
-    play(rt, core, &list, &wanted)?;
-    assert_eq!(rt; committed(rt, core, 0), 1);
-    assert_eq!(rt; committed(rt, core, 1), 0);
+    play(core, &list, &wanted)?;
+    assert_eq!(rt; committed(core, 0)?, 1);
+    assert_eq!(rt; committed(core, 1)?, 0);
     Ok(())
 }
 
@@ -293,12 +129,11 @@ fn first_commit_dooms(rt: &impl Abort, core: &mut MemCore<'_>) -> Tested
 #[test]
 fn writes_do_not_skew(rt: HostRuntime) -> Tested {
     let client = script(
-        &rt,
         rt.alloc(),
         &[Act::Look(1), Act::Set(0, 1)],
         &[Act::Look(0), Act::Set(1, 2)],
     )?;
-    let mut core = begun(&rt, rt.alloc(), &client, 1_000)?;
+    let mut core = begun(rt.alloc(), &client, 1_000)?;
     first_commit_dooms(&rt, &mut core)
 }
 
@@ -322,19 +157,19 @@ fn both_commit(rt: &impl Abort, core: &mut MemCore<'_>) -> Tested
         Reply::Committed(1),
         Reply::Committed(2),
     ];
-    play(rt, core, &list, &wanted)?;
+    play(core, &list, &wanted)?;
     for k in 0..2 {
-        assert_eq!(rt; seen_both(rt, core, k), (1, 2));
+        assert_eq!(rt; seen_both(core, k)?, (1, 2));
     }
-    assert_eq!(rt; committed_both(rt, core), (1, 2));
+    assert_eq!(rt; committed_both(core)?, (1, 2));
     Ok(())
 }
 
 /// Threads that set different Cells both commit.
 #[test]
 fn disjoint_writes_commit(rt: HostRuntime) -> Tested {
-    let client = script(&rt, rt.alloc(), &[Act::Set(0, 1)], &[Act::Set(1, 2)])?;
-    let mut core = begun(&rt, rt.alloc(), &client, 1_000)?;
+    let client = script(rt.alloc(), &[Act::Set(0, 1)], &[Act::Set(1, 2)])?;
+    let mut core = begun(rt.alloc(), &client, 1_000)?;
     both_commit(&rt, &mut core)
 }
 
@@ -368,8 +203,8 @@ fn refusals(rt: &impl Abort, core: &mut MemCore<'_>) -> Tested
         Reply::Advanced(Advance::NeedSolo(0)),
         Reply::Nothing,
     ];
-    play(rt, core, &list, &wanted)?;
-    assert_eq!(rt; committed_both(rt, core), (0, 0));
+    play(core, &list, &wanted)?;
+    assert_eq!(rt; committed_both(core)?, (0, 0));
     assert_eq!(rt; turns(core), 1);
     Ok(())
 }
@@ -377,8 +212,8 @@ fn refusals(rt: &impl Abort, core: &mut MemCore<'_>) -> Tested
 /// What is refused, and what is skipped.
 #[test]
 fn calls_are_refused(rt: HostRuntime) -> Tested {
-    let client = script(&rt, rt.alloc(), &[Act::Put(65)], &[Act::Look(0)])?;
-    let mut core = begun(&rt, rt.alloc(), &client, 1_000)?;
+    let client = script(rt.alloc(), &[Act::Put(65)], &[Act::Look(0)])?;
+    let mut core = begun(rt.alloc(), &client, 1_000)?;
     refusals(&rt, &mut core)
 }
 
@@ -388,16 +223,16 @@ fn none_begins(rt: &impl Abort, core: &mut MemCore<'_>) -> Tested
 {
     assert!(rt; outcome(core) == RunState::Spent);
     let wanted = [Reply::Refused(BeginError::AtBudget)];
-    play(rt, core, &[Event::Begin(0, 1)], &wanted)?;
-    assert_eq!(rt; committed_both(rt, core), (0, 0));
+    play(core, &[Event::Begin(0, 1)], &wanted)?;
+    assert_eq!(rt; committed_both(core)?, (0, 0));
     Ok(())
 }
 
 /// With the budget's steps in the history no transaction begins.
 #[test]
 fn budget_is_kept(rt: HostRuntime) -> Tested {
-    let client = script(&rt, rt.alloc(), &[Act::Look(0)], &[Act::Look(1)])?;
-    let mut core = begun(&rt, rt.alloc(), &client, 1)?;
+    let client = script(rt.alloc(), &[Act::Look(0)], &[Act::Look(1)])?;
+    let mut core = begun(rt.alloc(), &client, 1)?;
     none_begins(&rt, &mut core)
 }
 
@@ -410,14 +245,14 @@ fn both_end(rt: &impl Abort, core: &mut MemCore<'_>) -> Tested
     assert!(rt; next_ready(core) == Some(1));
     let list = [Event::Begin(2, 1), Event::Advance(2, 1)];
     let wanted = [Reply::Begun, Reply::Advanced(Advance::Ended(1))];
-    play(rt, core, &list, &wanted)?;
+    play(core, &list, &wanted)?;
     let running = Slot::Running {
         thread: 1,
         steps: 1,
         solo: false,
     };
-    assert!(rt; slot(rt, core, 2) == running);
-    assert!(rt; slot(rt, core, 0) == Slot::Idle);
+    assert!(rt; slot(core, 2)? == running);
+    assert!(rt; slot(core, 0)? == Slot::Idle);
     assert!(rt; next_ready(core) == Some(2));
     assert!(rt; outcome(core) == RunState::Running);
     let list = [
@@ -432,7 +267,7 @@ fn both_end(rt: &impl Abort, core: &mut MemCore<'_>) -> Tested
         Reply::Advanced(Advance::Ended(1)),
         Reply::Committed(2),
     ];
-    play(rt, core, &list, &wanted)?;
+    play(core, &list, &wanted)?;
     assert!(rt; next_ready(core).is_none());
     Ok(())
 }
@@ -451,15 +286,15 @@ fn ends_done(rt: &impl Abort, core: MemCore<'_>)
 /// How a core stands while a thread runs, and when all have ended.
 #[test]
 fn stands_and_ends(rt: HostRuntime) -> Tested {
-    let client = script(&rt, rt.alloc(), &[Act::Set(0, 3)], &[Act::Push(4)])?;
-    let mut core = begun(&rt, rt.alloc(), &client, 1_000)?;
+    let client = script(rt.alloc(), &[Act::Set(0, 3)], &[Act::Push(4)])?;
+    let mut core = begun(rt.alloc(), &client, 1_000)?;
     both_end(&rt, &mut core)?;
     ends_done(&rt, core);
     Ok(())
 }
 
 /// A transaction of one step of thread 1, so many times.
-fn look_often(rt: &impl Abort, core: &mut MemCore<'_>, times: u64) -> Tested
+fn look_often(core: &mut MemCore<'_>, times: u64) -> Tested
     requires { IsGoodScriptCore core.old }
     ensures { IsGoodScriptCore core.new }
 {
@@ -470,7 +305,7 @@ fn look_often(rt: &impl Abort, core: &mut MemCore<'_>, times: u64) -> Tested
             Reply::Advanced(Advance::Ran(1)),
             Reply::Committed(n.saturating_add(1)),
         ];
-        play(rt, core, &list, &wanted)?;
+        play(core, &list, &wanted)?;
     }
     Ok(())
 }
@@ -489,7 +324,7 @@ fn looks(alloc: Global, count: usize) -> Result<Vec<Act>, test::Fail> {
 fn last_of_many(rt: &impl Abort, core: &mut MemCore<'_>) -> Tested
     requires { IsGoodScriptCore core.old }
 {
-    look_often(rt, core, 255)?;
+    look_often(core, 255)?;
     let list = [
         Event::Begin(0, 1),
         Event::Advance(0, 1),
@@ -504,9 +339,9 @@ fn last_of_many(rt: &impl Abort, core: &mut MemCore<'_>) -> Tested
         Reply::Advanced(Advance::Ended(1)),
         Reply::Committed(256),
     ];
-    play(rt, core, &list, &wanted)?;
-    play(rt, core, &[Event::Commit(0)], &[Reply::Committed(257)])?;
-    assert_eq!(rt; committed(rt, core, 0), 5);
+    play(core, &list, &wanted)?;
+    play(core, &[Event::Commit(0)], &[Reply::Committed(257)])?;
+    assert_eq!(rt; committed(core, 0)?, 5);
     Ok(())
 }
 
@@ -514,7 +349,7 @@ fn last_of_many(rt: &impl Abort, core: &mut MemCore<'_>) -> Tested
 #[test]
 fn looks_end_with_their_transaction(rt: HostRuntime) -> Tested {
     let acts = looks(rt.alloc(), 299)?;
-    let client = script(&rt, rt.alloc(), acts.as_slice(), &[Act::Set(0, 5)])?;
-    let mut core = begun(&rt, rt.alloc(), &client, 1_000)?;
+    let client = script(rt.alloc(), acts.as_slice(), &[Act::Set(0, 5)])?;
+    let mut core = begun(rt.alloc(), &client, 1_000)?;
     last_of_many(&rt, &mut core)
 }

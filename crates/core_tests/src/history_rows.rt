@@ -4,7 +4,7 @@ ghost use Rattle.lock_run.specs.LockState.{lock_state, IsSound};
 ghost use Rattle.lock_run.specs.Script.{ScriptSound};
 ghost use Rattle.stm_io.specs.Memory.{mem_sink_state, mem_source_state};
 
-use crate::core_rows::{Tested, begun, script_of, sink, source};
+use core_bench::{Tested, begun, script_of, sink, source};
 use lock_run::{Act, Acts, History, LockRun, Script, Turn};
 use std::alloc::Global;
 use std::process::Abort;
@@ -43,7 +43,7 @@ fn draw_events(alloc: Global, seed: u32, count: usize) -> Result<Vec<Event>, tes
 }
 
 /// Three threads that look at, set and push what the others do, and print.
-fn three(rt: &impl Abort, alloc: Global) -> Result<Script, test::Fail> {
+fn three(alloc: Global) -> Result<Script, test::Fail> {
     let mut lists = Vec::new(alloc);
     let first = [
         Act::Look(0),
@@ -72,7 +72,7 @@ fn three(rt: &impl Abort, alloc: Global) -> Result<Script, test::Fail> {
     lists.push(Acts::from_slice(alloc, &first)?)?;
     lists.push(Acts::from_slice(alloc, &second)?)?;
     lists.push(Acts::from_slice(alloc, &third)?)?;
-    Ok(script_of(rt, lists))
+    script_of(lists)
 }
 
 /// A machine at its first state.
@@ -152,7 +152,7 @@ fn written_again(
 
 /// Makes the events of a list on a core, and does its history's turns again on a machine, which writes the same.
 fn on_both(rt: &impl Abort, alloc: Global, client: &Script, seed: u32) -> Result<Left, test::Fail> {
-    let mut core = begun(rt, alloc, client, 1_000)?;
+    let mut core = begun(alloc, client, 1_000)?;
     let list = draw_events(alloc, seed, 80)?;
     let replies = core.run_events(list.as_slice())?;
     let finished = core.finish();
@@ -169,7 +169,7 @@ fn on_both(rt: &impl Abort, alloc: Global, client: &Script, seed: u32) -> Result
 /// The histories of 500 lists of events are runs of the one-lock machine, with the same output.
 #[test]
 fn histories_run_again(rt: HostRuntime) -> Tested {
-    let client = three(&rt, rt.alloc())?;
+    let client = three(rt.alloc())?;
     let mut turns = 0usize;
     let mut conflicts = 0usize;
     let mut bytes = 0usize;

@@ -2,6 +2,7 @@
 //! its contract allows it.
 #![tactic(auto)]
 
+pub mod acts;
 mod bench;
 mod insists;
 mod kinds;

@@ -1,6 +1,6 @@
 //! Rows of what finds keys and of what notes looks: a long dictionary, keys that are equal, and more transactions than
 //! a byte has numbers. Each row is tried on a store of maps and on a store of pages.
-use crate::acts::{make, make_cell, maps, paged, put_numbers};
+use crate::acts::{make_cell, maps, paged};
 use crate::judge::Judge;
 use py_data::{Addr, Kind, Value};
 use seg_store::SegStore;
@@ -8,6 +8,7 @@ use std::alloc::Global;
 use std::process::Abort;
 use std::test::Fail;
 use store_bench::Bench;
+use store_bench::acts::{make, put_numbers};
 
 type Tested = Result<(), Fail>;
 
@@ -49,12 +50,12 @@ fn every_second<S: SegStore>(rt: &Judge<impl Abort>, alloc: Global, mut store: B
 
 #[test]
 fn every_second_maps(rt: HostRuntime) -> Tested {
-    every_second(&Judge(&rt), rt.alloc(), maps(&rt, rt.alloc(), 2)?)
+    every_second(&Judge(&rt), rt.alloc(), maps(rt.alloc(), 2)?)
 }
 
 #[test]
 fn every_second_pages(rt: HostRuntime) -> Tested {
-    every_second(&Judge(&rt), rt.alloc(), paged(&rt, rt.alloc(), 2, 32)?)
+    every_second(&Judge(&rt), rt.alloc(), paged(rt.alloc(), 2, 32)?)
 }
 
 /// A truth value is the key of its number, and a number the key of its truth value.
@@ -72,12 +73,12 @@ fn truth_values<S: SegStore>(rt: &Judge<impl Abort>, alloc: Global, mut store: B
 
 #[test]
 fn truth_values_maps(rt: HostRuntime) -> Tested {
-    truth_values(&Judge(&rt), rt.alloc(), maps(&rt, rt.alloc(), 1)?)
+    truth_values(&Judge(&rt), rt.alloc(), maps(rt.alloc(), 1)?)
 }
 
 #[test]
 fn truth_values_pages(rt: HostRuntime) -> Tested {
-    truth_values(&Judge(&rt), rt.alloc(), paged(&rt, rt.alloc(), 1, 1)?)
+    truth_values(&Judge(&rt), rt.alloc(), paged(rt.alloc(), 1, 1)?)
 }
 
 /// A segment looks at one cell and commits, and then looks at another in each of 254 commits more. In the transaction
@@ -106,10 +107,10 @@ fn old_looks<S: SegStore>(rt: &Judge<impl Abort>, alloc: Global, mut store: Benc
 
 #[test]
 fn old_looks_maps(rt: HostRuntime) -> Tested {
-    old_looks(&Judge(&rt), rt.alloc(), maps(&rt, rt.alloc(), 2)?)
+    old_looks(&Judge(&rt), rt.alloc(), maps(rt.alloc(), 2)?)
 }
 
 #[test]
 fn old_looks_pages(rt: HostRuntime) -> Tested {
-    old_looks(&Judge(&rt), rt.alloc(), paged(&rt, rt.alloc(), 2, 1)?)
+    old_looks(&Judge(&rt), rt.alloc(), paged(rt.alloc(), 2, 1)?)
 }

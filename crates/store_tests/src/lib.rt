@@ -8,6 +8,4 @@ mod index_rows;
 #[cfg(test)]
 mod judge;
 #[cfg(test)]
-mod page_rows;
-#[cfg(test)]
 mod store_rows;

@@ -1,6 +1,6 @@
 //! Rows of a store with one or two segments: a cell that both see, a list, dictionaries and a string. Each row is tried
 //! on a store of maps and on a store of pages.
-use crate::acts::{make, make_cell, make_text, maps, number, paged, push_numbers, size};
+use crate::acts::{make_cell, maps, paged};
 use crate::judge::Judge;
 use py_data::{Addr, Kind, Value};
 use seg_store::SegStore;
@@ -8,6 +8,7 @@ use std::alloc::Global;
 use std::process::Abort;
 use std::test::Fail;
 use store_bench::Bench;
+use store_bench::acts::{make, make_text, number, push_numbers, size};
 
 type Tested = Result<(), Fail>;
 
@@ -28,12 +29,12 @@ fn published<S: SegStore>(rt: &Judge<impl Abort>, alloc: Global, mut store: Benc
 
 #[test]
 fn published_maps(rt: HostRuntime) -> Tested {
-    published(&Judge(&rt), rt.alloc(), maps(&rt, rt.alloc(), 2)?)
+    published(&Judge(&rt), rt.alloc(), maps(rt.alloc(), 2)?)
 }
 
 #[test]
 fn published_pages(rt: HostRuntime) -> Tested {
-    published(&Judge(&rt), rt.alloc(), paged(&rt, rt.alloc(), 2, 1)?)
+    published(&Judge(&rt), rt.alloc(), paged(rt.alloc(), 2, 1)?)
 }
 
 /// A cell of the image, which holds 5.
@@ -70,12 +71,12 @@ fn locked_and_dropped<S: SegStore>(
 
 #[test]
 fn locked_and_dropped_maps(rt: HostRuntime) -> Tested {
-    locked_and_dropped(&Judge(&rt), rt.alloc(), maps(&rt, rt.alloc(), 2)?)
+    locked_and_dropped(&Judge(&rt), rt.alloc(), maps(rt.alloc(), 2)?)
 }
 
 #[test]
 fn locked_and_dropped_pages(rt: HostRuntime) -> Tested {
-    locked_and_dropped(&Judge(&rt), rt.alloc(), paged(&rt, rt.alloc(), 2, 1)?)
+    locked_and_dropped(&Judge(&rt), rt.alloc(), paged(rt.alloc(), 2, 1)?)
 }
 
 /// A step that is taken back leaves what stood before it, and the lock.
@@ -96,12 +97,12 @@ fn taken_back<S: SegStore>(rt: &Judge<impl Abort>, alloc: Global, mut store: Ben
 
 #[test]
 fn taken_back_maps(rt: HostRuntime) -> Tested {
-    taken_back(&Judge(&rt), rt.alloc(), maps(&rt, rt.alloc(), 2)?)
+    taken_back(&Judge(&rt), rt.alloc(), maps(rt.alloc(), 2)?)
 }
 
 #[test]
 fn taken_back_pages(rt: HostRuntime) -> Tested {
-    taken_back(&Judge(&rt), rt.alloc(), paged(&rt, rt.alloc(), 2, 1)?)
+    taken_back(&Judge(&rt), rt.alloc(), paged(rt.alloc(), 2, 1)?)
 }
 
 /// A begin forgets the looks of its segment alone.
@@ -119,12 +120,12 @@ fn begun<S: SegStore>(rt: &Judge<impl Abort>, alloc: Global, mut store: Bench<S>
 
 #[test]
 fn begun_maps(rt: HostRuntime) -> Tested {
-    begun(&Judge(&rt), rt.alloc(), maps(&rt, rt.alloc(), 2)?)
+    begun(&Judge(&rt), rt.alloc(), maps(rt.alloc(), 2)?)
 }
 
 #[test]
 fn begun_pages(rt: HostRuntime) -> Tested {
-    begun(&Judge(&rt), rt.alloc(), paged(&rt, rt.alloc(), 2, 1)?)
+    begun(&Judge(&rt), rt.alloc(), paged(rt.alloc(), 2, 1)?)
 }
 
 /// One look at a record shows its kind, its count and its first values, or its kind and one value; Unset where it has
@@ -152,12 +153,12 @@ fn looked_at<S: SegStore>(rt: &Judge<impl Abort>, alloc: Global, mut store: Benc
 
 #[test]
 fn looked_at_maps(rt: HostRuntime) -> Tested {
-    looked_at(&Judge(&rt), rt.alloc(), maps(&rt, rt.alloc(), 1)?)
+    looked_at(&Judge(&rt), rt.alloc(), maps(rt.alloc(), 1)?)
 }
 
 #[test]
 fn looked_at_pages(rt: HostRuntime) -> Tested {
-    looked_at(&Judge(&rt), rt.alloc(), paged(&rt, rt.alloc(), 1, 1)?)
+    looked_at(&Judge(&rt), rt.alloc(), paged(rt.alloc(), 1, 1)?)
 }
 
 /// A list that grows and is cut.
@@ -174,12 +175,12 @@ fn lists<S: SegStore>(rt: &Judge<impl Abort>, alloc: Global, mut store: Bench<S>
 
 #[test]
 fn lists_maps(rt: HostRuntime) -> Tested {
-    lists(&Judge(&rt), rt.alloc(), maps(&rt, rt.alloc(), 1)?)
+    lists(&Judge(&rt), rt.alloc(), maps(rt.alloc(), 1)?)
 }
 
 #[test]
 fn lists_pages(rt: HostRuntime) -> Tested {
-    lists(&Judge(&rt), rt.alloc(), paged(&rt, rt.alloc(), 1, 1)?)
+    lists(&Judge(&rt), rt.alloc(), paged(rt.alloc(), 1, 1)?)
 }
 
 /// A dictionary with one pair, which is found and dropped.
@@ -196,12 +197,12 @@ fn dictionaries<S: SegStore>(rt: &Judge<impl Abort>, alloc: Global, mut store: B
 
 #[test]
 fn dictionaries_maps(rt: HostRuntime) -> Tested {
-    dictionaries(&Judge(&rt), rt.alloc(), maps(&rt, rt.alloc(), 1)?)
+    dictionaries(&Judge(&rt), rt.alloc(), maps(rt.alloc(), 1)?)
 }
 
 #[test]
 fn dictionaries_pages(rt: HostRuntime) -> Tested {
-    dictionaries(&Judge(&rt), rt.alloc(), paged(&rt, rt.alloc(), 1, 1)?)
+    dictionaries(&Judge(&rt), rt.alloc(), paged(rt.alloc(), 1, 1)?)
 }
 
 /// A string, and two bytes of it.
@@ -216,12 +217,12 @@ fn strings<S: SegStore>(rt: &Judge<impl Abort>, alloc: Global, mut store: Bench<
 
 #[test]
 fn strings_maps(rt: HostRuntime) -> Tested {
-    strings(&Judge(&rt), rt.alloc(), maps(&rt, rt.alloc(), 1)?)
+    strings(&Judge(&rt), rt.alloc(), maps(rt.alloc(), 1)?)
 }
 
 #[test]
 fn strings_pages(rt: HostRuntime) -> Tested {
-    strings(&Judge(&rt), rt.alloc(), paged(&rt, rt.alloc(), 1, 1)?)
+    strings(&Judge(&rt), rt.alloc(), paged(rt.alloc(), 1, 1)?)
 }
 
 /// The place of a new string of these bytes as a key.
@@ -256,10 +257,10 @@ fn text_keys<S: SegStore>(rt: &Judge<impl Abort>, alloc: Global, mut store: Benc
 
 #[test]
 fn text_keys_maps(rt: HostRuntime) -> Tested {
-    text_keys(&Judge(&rt), rt.alloc(), maps(&rt, rt.alloc(), 1)?)
+    text_keys(&Judge(&rt), rt.alloc(), maps(rt.alloc(), 1)?)
 }
 
 #[test]
 fn text_keys_pages(rt: HostRuntime) -> Tested {
-    text_keys(&Judge(&rt), rt.alloc(), paged(&rt, rt.alloc(), 1, 1)?)
+    text_keys(&Judge(&rt), rt.alloc(), paged(rt.alloc(), 1, 1)?)
 }

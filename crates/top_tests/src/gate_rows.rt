@@ -1,6 +1,5 @@
 //! Workers that run pieces of different threads at the same time: a gate holds the first piece of each thread until a
 //! piece of every one of them has come.
-use crate::call_rows::words_in;
 use std::alloc::Global;
 use std::process::Abort;
 use std::sync::Wait;
@@ -9,6 +8,7 @@ use std::test;
 use std::thread::Threads;
 use stm_io::{Gate, SureLoader, SureSink, SureSource};
 use stm_top::{Report, run_words};
+use top_bench::words_in;
 
 type Tested = Result<(), test::Fail>;
 

@@ -1,12 +1,12 @@
 //! Scripts over few pages: where the heap is full, and what is told of it. Written by hand, from the words that
 //! records take.
-use crate::call_rows::{NO_FAILURE, lines_of, report, told, words_in};
 use py_data::NoMemory;
 use std::alloc::Global;
 use std::process::Abort;
 use std::sync::Wait;
 use std::test;
 use std::thread::Threads;
+use top_bench::{NO_FAILURE, lines_of, report, told, words_in};
 
 type Tested = Result<(), test::Fail>;
 

@@ -6,7 +6,6 @@ ghost use Rattle.py_frames.specs.Sound.{Sound};
 ghost use Rattle.py_step.specs.Client.{program_in};
 ghost use Rattle.stm_io.specs.Memory.{mem_sink_state, mem_source_state};
 
-use crate::call_rows::{NO_FAILURE, SCRIPTS, lines_of, report, source_word, words_in};
 use front_end::compile_text;
 use lock_run::{History, LockRun, Turn, TurnWhy};
 use py_data::{Addr, Names};
@@ -18,6 +17,7 @@ use std::test;
 use std::thread::Threads;
 use stm_io::{MemSink, MemSource};
 use stm_top::SCRIPT_LIMIT;
+use top_bench::{NO_FAILURE, SCRIPTS, lines_of, report, source_word, words_in};
 
 type Tested = Result<(), test::Fail>;
 

@@ -1,9 +1,6 @@
 //! Rows of a store of pages: full heaps, pages of one segment alone, records that share pages, growth that is taken
 //! back.
-use crate::acts::{
-    has_numbers, has_text, make, make_text, number, paged, push_numbers, put_numbers, refused,
-    refused_pair, refused_push, size,
-};
+use crate::acts::{has_numbers, has_text, paged, refused, refused_pair, refused_push};
 use crate::judge::Judge;
 use py_data::{Addr, Kind, Value};
 use seg_store::SegStore;
@@ -11,6 +8,7 @@ use std::alloc::Global;
 use std::process::Abort;
 use std::test::Fail;
 use store_bench::Bench;
+use store_bench::acts::{make, make_text, number, push_numbers, put_numbers, size};
 
 type Tested = Result<(), Fail>;
 
@@ -52,7 +50,7 @@ fn fill_one_page<S: SegStore>(
 
 #[test]
 fn one_page_is_full(rt: HostRuntime) -> Tested {
-    fill_one_page(&Judge(&rt), rt.alloc(), paged(&rt, rt.alloc(), 2, 1)?)
+    fill_one_page(&Judge(&rt), rt.alloc(), paged(rt.alloc(), 2, 1)?)
 }
 
 /// A List of the full heap takes the last two words for its first body, and has none for the next.
@@ -76,7 +74,7 @@ fn take_last_words<S: SegStore>(
 
 #[test]
 fn last_words(rt: HostRuntime) -> Tested {
-    take_last_words(&Judge(&rt), rt.alloc(), paged(&rt, rt.alloc(), 2, 1)?)
+    take_last_words(&Judge(&rt), rt.alloc(), paged(rt.alloc(), 2, 1)?)
 }
 
 /// A header that is taken for a record whose body can't be had is given back, and stays reserved.
@@ -97,7 +95,7 @@ fn make_without_body<S: SegStore>(
 
 #[test]
 fn header_without_body(rt: HostRuntime) -> Tested {
-    make_without_body(&Judge(&rt), rt.alloc(), paged(&rt, rt.alloc(), 1, 1)?)
+    make_without_body(&Judge(&rt), rt.alloc(), paged(rt.alloc(), 1, 1)?)
 }
 
 /// A Dict whose next body is there, but not its next index: the body is given back.
@@ -125,7 +123,7 @@ fn pair_without_index<S: SegStore>(
 
 #[test]
 fn body_without_index(rt: HostRuntime) -> Tested {
-    pair_without_index(&Judge(&rt), rt.alloc(), paged(&rt, rt.alloc(), 1, 1)?)
+    pair_without_index(&Judge(&rt), rt.alloc(), paged(rt.alloc(), 1, 1)?)
 }
 
 /// What a step that is taken back or a transaction that is dropped gave back is taken again.
@@ -145,7 +143,7 @@ fn take_again<S: SegStore>(rt: &Judge<impl Abort>, alloc: Global, mut store: Ben
 
 #[test]
 fn taken_again(rt: HostRuntime) -> Tested {
-    take_again(&Judge(&rt), rt.alloc(), paged(&rt, rt.alloc(), 2, 1)?)
+    take_again(&Judge(&rt), rt.alloc(), paged(rt.alloc(), 2, 1)?)
 }
 
 /// Makes records whose words, with the first two, are 1,684, and answers a List of 256 numbers among them.
@@ -209,7 +207,7 @@ fn grow_past_limit<S: SegStore>(
 
 #[test]
 fn next_body(rt: HostRuntime) -> Tested {
-    grow_past_limit(&Judge(&rt), rt.alloc(), paged(&rt, rt.alloc(), 2, 4)?)
+    grow_past_limit(&Judge(&rt), rt.alloc(), paged(rt.alloc(), 2, 4)?)
 }
 
 /// Makes a List of two numbers.
@@ -267,7 +265,7 @@ fn write_own_pages<S: SegStore>(
 
 #[test]
 fn own_pages(rt: HostRuntime) -> Tested {
-    write_own_pages(&Judge(&rt), rt.alloc(), paged(&rt, rt.alloc(), 2, 2)?)
+    write_own_pages(&Judge(&rt), rt.alloc(), paged(rt.alloc(), 2, 2)?)
 }
 
 /// Two Lists of 600 numbers, whose bodies span pages.
@@ -317,7 +315,7 @@ fn write_shared_pages<S: SegStore>(
 
 #[test]
 fn shared_pages(rt: HostRuntime) -> Tested {
-    write_shared_pages(&Judge(&rt), rt.alloc(), paged(&rt, rt.alloc(), 3, 32)?)
+    write_shared_pages(&Judge(&rt), rt.alloc(), paged(rt.alloc(), 3, 32)?)
 }
 
 /// Strings that span pages, between Lists that two segments change.
@@ -356,7 +354,7 @@ fn keep_long_strings<S: SegStore>(
 
 #[test]
 fn long_strings(rt: HostRuntime) -> Tested {
-    keep_long_strings(&Judge(&rt), rt.alloc(), paged(&rt, rt.alloc(), 2, 16)?)
+    keep_long_strings(&Judge(&rt), rt.alloc(), paged(rt.alloc(), 2, 16)?)
 }
 
 /// A List that grew twice, and is dropped, has its old body again.
@@ -384,7 +382,7 @@ fn drop_growth<S: SegStore>(rt: &Judge<impl Abort>, alloc: Global, mut store: Be
 
 #[test]
 fn growth_is_dropped(rt: HostRuntime) -> Tested {
-    drop_growth(&Judge(&rt), rt.alloc(), paged(&rt, rt.alloc(), 2, 4)?)
+    drop_growth(&Judge(&rt), rt.alloc(), paged(rt.alloc(), 2, 4)?)
 }
 
 /// A step in which a List grew twice is taken back, and done again.
@@ -417,7 +415,7 @@ fn take_growth_back<S: SegStore>(
 
 #[test]
 fn growth_is_taken_back(rt: HostRuntime) -> Tested {
-    take_growth_back(&Judge(&rt), rt.alloc(), paged(&rt, rt.alloc(), 2, 4)?)
+    take_growth_back(&Judge(&rt), rt.alloc(), paged(rt.alloc(), 2, 4)?)
 }
 
 /// The place of a key after the pairs of the numbers from 11 to 20 were dropped.
@@ -459,7 +457,7 @@ fn drop_pairs<S: SegStore>(rt: &Judge<impl Abort>, alloc: Global, mut store: Ben
 
 #[test]
 fn pairs_are_dropped(rt: HostRuntime) -> Tested {
-    drop_pairs(&Judge(&rt), rt.alloc(), paged(&rt, rt.alloc(), 2, 4)?)
+    drop_pairs(&Judge(&rt), rt.alloc(), paged(rt.alloc(), 2, 4)?)
 }
 
 /// The pair of a number has this key, and 500 more as its value.
@@ -504,7 +502,7 @@ fn drop_in_long_dict<S: SegStore>(
 
 #[test]
 fn long_dict(rt: HostRuntime) -> Tested {
-    drop_in_long_dict(&Judge(&rt), rt.alloc(), paged(&rt, rt.alloc(), 2, 16)?)
+    drop_in_long_dict(&Judge(&rt), rt.alloc(), paged(rt.alloc(), 2, 16)?)
 }
 
 /// Each segment below 8 makes a cell, which holds its number, and publishes it.
@@ -583,5 +581,5 @@ fn change_eight_cells<S: SegStore>(
 
 #[test]
 fn eight_segments(rt: HostRuntime) -> Tested {
-    change_eight_cells(&Judge(&rt), rt.alloc(), paged(&rt, rt.alloc(), 8, 1)?)
+    change_eight_cells(&Judge(&rt), rt.alloc(), paged(rt.alloc(), 8, 1)?)
 }

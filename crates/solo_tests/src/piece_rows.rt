@@ -1,7 +1,7 @@
 //! Pieces on a core: loans that are run and installed at once, and such as are given back too late.
-ghost use Rattle.core_tests.specs.ScriptCore.{IsGoodScriptCore};
+ghost use Rattle.core_bench.specs.ScriptCore.{IsGoodScriptCore};
 
-use crate::core_rows::{MemCore, Tested, begun, cell, committed, play, script, side};
+use core_bench::{MemCore, Tested, begun, cell, committed, play, script, side};
 use lock_run::{Act, ScriptState};
 use py_data::Conflict;
 use seg_store::SegStore;
@@ -12,9 +12,9 @@ use stm_core::{Advance, Event, Reply};
 use stm_pieces::{Piece, PieceEnd, run_piece};
 
 /// Thread 1 does a step of these acts, two more in a piece, and commits: the number in the first Cell then.
-fn in_a_piece(rt: &impl Abort, alloc: Global, acts: &[Act]) -> Result<i64, test::Fail> {
-    let client = script(rt, alloc, acts, &[Act::Look(1)])?;
-    let mut core = begun(rt, alloc, &client, 1_000)?;
+fn in_a_piece(alloc: Global, acts: &[Act]) -> Result<i64, test::Fail> {
+    let client = script(alloc, acts, &[Act::Look(1)])?;
+    let mut core = begun(alloc, &client, 1_000)?;
     let list = [
         Event::Begin(0, 1),
         Event::Advance(0, 1),
@@ -27,15 +27,15 @@ fn in_a_piece(rt: &impl Abort, alloc: Global, acts: &[Act]) -> Result<i64, test:
         Reply::Installed(2),
         Reply::Committed(1),
     ];
-    play(rt, &mut core, &list, &wanted)?;
-    Ok(committed(rt, &core, 0))
+    play(&mut core, &list, &wanted)?;
+    Ok(committed(&core, 0)?)
 }
 
 /// A Cell that a step has looked at is loaned.
 #[test]
 fn looks_go_on_in_a_piece(rt: HostRuntime) -> Tested {
     let acts = [Act::Look(0), Act::Look(0), Act::Look(0), Act::Look(0)];
-    assert_eq!(&rt; in_a_piece(&rt, rt.alloc(), &acts)?, 0);
+    assert_eq!(&rt; in_a_piece(rt.alloc(), &acts)?, 0);
     Ok(())
 }
 
@@ -43,12 +43,12 @@ fn looks_go_on_in_a_piece(rt: HostRuntime) -> Tested {
 #[test]
 fn sets_go_on_in_a_piece(rt: HostRuntime) -> Tested {
     let acts = [Act::Set(0, 1), Act::Set(0, 2), Act::Set(0, 3), Act::Look(0)];
-    assert_eq!(&rt; in_a_piece(&rt, rt.alloc(), &acts)?, 3);
+    assert_eq!(&rt; in_a_piece(rt.alloc(), &acts)?, 3);
     Ok(())
 }
 
 /// Thread 1 pushes, which is no piece, and pushes again.
-fn push_stands(rt: &impl Abort, core: &mut MemCore<'_>) -> Tested
+fn push_stands(core: &mut MemCore<'_>) -> Tested
     requires { IsGoodScriptCore core.old }
 {
     let list = [
@@ -63,24 +63,19 @@ fn push_stands(rt: &impl Abort, core: &mut MemCore<'_>) -> Tested
         Reply::Installed(0),
         Reply::Advanced(Advance::Ended(1)),
     ];
-    play(rt, core, &list, &wanted)
+    play(core, &list, &wanted)
 }
 
 /// A List gets no longer in a piece.
 #[test]
 fn a_push_is_no_piece(rt: HostRuntime) -> Tested {
-    let client = script(
-        &rt,
-        rt.alloc(),
-        &[Act::Push(1), Act::Push(2)],
-        &[Act::Look(1)],
-    )?;
-    let mut core = begun(&rt, rt.alloc(), &client, 1_000)?;
-    push_stands(&rt, &mut core)
+    let client = script(rt.alloc(), &[Act::Push(1), Act::Push(2)], &[Act::Look(1)])?;
+    let mut core = begun(rt.alloc(), &client, 1_000)?;
+    push_stands(&mut core)
 }
 
 /// Pieces with no transaction, of no step, of no segment, up to the length, and past it.
-fn pieces_of_the_length(rt: &impl Abort, core: &mut MemCore<'_>) -> Tested
+fn pieces_of_the_length(core: &mut MemCore<'_>) -> Tested
     requires { IsGoodScriptCore core.old }
 {
     let list = [
@@ -107,16 +102,16 @@ fn pieces_of_the_length(rt: &impl Abort, core: &mut MemCore<'_>) -> Tested
         Reply::Advanced(Advance::Ended(1)),
         Reply::Skipped,
     ];
-    play(rt, core, &list, &wanted)
+    play(core, &list, &wanted)
 }
 
 /// A piece has no more steps than its transaction may still do, and is skipped where there are none.
 #[test]
 fn pieces_are_within_the_length(rt: HostRuntime) -> Tested {
     let looks = [Act::Look(0); 6];
-    let client = script(&rt, rt.alloc(), &looks, &[Act::Look(1)])?;
-    let mut core = begun(&rt, rt.alloc(), &client, 1_000)?;
-    pieces_of_the_length(&rt, &mut core)
+    let client = script(rt.alloc(), &looks, &[Act::Look(1)])?;
+    let mut core = begun(rt.alloc(), &client, 1_000)?;
+    pieces_of_the_length(&mut core)
 }
 
 /// The piece of a loan of a segment's transaction.
@@ -146,7 +141,7 @@ fn fits(rt: &impl Abort, core: &MemCore<'_>, k: u8, piece: &Piece<ScriptState>) 
 }
 
 /// Threads 1 and 2 begin and do a step each, of which the first one's ends so.
-fn both_step(rt: &impl Abort, core: &mut MemCore<'_>, first: Advance) -> Tested
+fn both_step(core: &mut MemCore<'_>, first: Advance) -> Tested
     requires { IsGoodScriptCore core.old }
     ensures { IsGoodScriptCore core.new }
 {
@@ -162,7 +157,7 @@ fn both_step(rt: &impl Abort, core: &mut MemCore<'_>, first: Advance) -> Tested
         Reply::Advanced(first),
         Reply::Advanced(Advance::Ran(1)),
     ];
-    play(rt, core, &list, &wanted)
+    play(core, &list, &wanted)
 }
 
 /// A piece of thread 2 fits until thread 1 commits.
@@ -170,34 +165,33 @@ fn doomed_meanwhile(rt: &impl Abort, alloc: Global, core: &mut MemCore<'_>) -> T
     requires { IsGoodScriptCore core.old }
 {
     let lost = Conflict {
-        at: cell(rt, core, 0),
+        at: cell(core, 0)?,
         writer: side(0, 1, 1),
         other: side(1, 2, 2),
         asks: false,
         lost: 1,
     };
-    both_step(rt, core, Advance::Ended(1))?;
+    both_step(core, Advance::Ended(1))?;
     let piece = piece_of(rt, alloc, core, 1)?;
     assert_eq!(rt; piece.steps, 1);
     assert!(rt; piece.end == PieceEnd::NeedHeap);
     assert!(rt; fits(rt, core, 1, &piece));
-    play(rt, core, &[Event::Commit(0)], &[Reply::Committed(1)])?;
+    play(core, &[Event::Commit(0)], &[Reply::Committed(1)])?;
     assert!(rt; !fits(rt, core, 1, &piece));
     let list = [Event::Piece(1, 1), Event::Piece(1, 1)];
     let wanted = [Reply::Lost(lost), Reply::Skipped];
-    play(rt, core, &list, &wanted)
+    play(core, &list, &wanted)
 }
 
 /// A piece of a transaction that is doomed before it comes back doesn't fit, and the segment is told its conflict.
 #[test]
 fn a_doomed_piece_does_not_fit(rt: HostRuntime) -> Tested {
     let client = script(
-        &rt,
         rt.alloc(),
         &[Act::Set(0, 1)],
         &[Act::Look(0), Act::Look(0), Act::Look(1)],
     )?;
-    let mut core = begun(&rt, rt.alloc(), &client, 1_000)?;
+    let mut core = begun(rt.alloc(), &client, 1_000)?;
     doomed_meanwhile(&rt, rt.alloc(), &mut core)
 }
 
@@ -205,7 +199,7 @@ fn a_doomed_piece_does_not_fit(rt: HostRuntime) -> Tested {
 fn goes_on_meanwhile(rt: &impl Abort, alloc: Global, core: &mut MemCore<'_>) -> Tested
     requires { IsGoodScriptCore core.old }
 {
-    both_step(rt, core, Advance::Ran(1))?;
+    both_step(core, Advance::Ran(1))?;
     let piece = piece_of(rt, alloc, core, 0)?;
     assert_eq!(rt; piece.steps, 2);
     assert!(rt; piece.end == PieceEnd::Ended);
@@ -214,7 +208,7 @@ fn goes_on_meanwhile(rt: &impl Abort, alloc: Global, core: &mut MemCore<'_>) -> 
     assert!(rt; !fits(rt, core, 2, &piece));
     let list = [Event::Advance(0, 1)];
     let wanted = [Reply::Advanced(Advance::Ran(1))];
-    play(rt, core, &list, &wanted)?;
+    play(core, &list, &wanted)?;
     assert!(rt; !fits(rt, core, 0, &piece));
     Ok(())
 }
@@ -223,7 +217,7 @@ fn goes_on_meanwhile(rt: &impl Abort, alloc: Global, core: &mut MemCore<'_>) -> 
 #[test]
 fn an_old_piece_does_not_fit(rt: HostRuntime) -> Tested {
     let acts = [Act::Look(0), Act::Look(0), Act::Look(0)];
-    let client = script(&rt, rt.alloc(), &acts, &acts)?;
-    let mut core = begun(&rt, rt.alloc(), &client, 1_000)?;
+    let client = script(rt.alloc(), &acts, &acts)?;
+    let mut core = begun(rt.alloc(), &client, 1_000)?;
     goes_on_meanwhile(&rt, rt.alloc(), &mut core)
 }

@@ -1,6 +1,5 @@
 //! Scripts of several threads, as a user writes them, whose answer is one however the workers come to the heap.
 //! Written by hand.
-use crate::call_rows::{NO_FAILURE, report, told, words_in};
 use py_data::NoMemory;
 use std::alloc::Global;
 use std::process::Abort;
@@ -8,6 +7,7 @@ use std::sync::Wait;
 use std::test;
 use std::thread::Threads;
 use text_tests::scripts::COUNTER;
+use top_bench::{NO_FAILURE, report, told, words_in};
 
 type Tested = Result<(), test::Fail>;
 

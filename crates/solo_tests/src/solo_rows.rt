@@ -1,7 +1,7 @@
 //! Scripts on a core whose transactions become solo: what they print, whom they doom, and what a device's fault leaves.
-ghost use Rattle.core_tests.specs.ScriptCore.{IsGoodScriptCore};
+ghost use Rattle.core_bench.specs.ScriptCore.{IsGoodScriptCore};
 
-use crate::core_rows::{
+use core_bench::{
     MemCore, Tested, begun, begun_over, cell, committed, outcome, play, script, side, slot,
 };
 use lock_run::Act;
@@ -31,15 +31,10 @@ fn failing(alloc: Global, call: u64) -> Result<MemSink, test::Fail> {
 }
 
 /// The numbers in the List, as a segment sees it.
-fn listed(
-    rt: &impl Abort,
-    alloc: Global,
-    core: &MemCore<'_>,
-    k: u8,
-) -> Result<Vec<i64>, test::Fail> {
-    let a = cell(rt, core, 2);
+fn listed(alloc: Global, core: &MemCore<'_>, k: u8) -> Result<Vec<i64>, test::Fail> {
+    let a = cell(core, 2)?;
     let Some(r) = core.store().seen(k, a.0) else {
-        panic!(rt; "no record");
+        return Err("no record".into());
     };
     let mut numbers = Vec::new(alloc);
     for v in r.values() {
@@ -65,7 +60,7 @@ fn writer_is_doomed(rt: &impl Abort, core: &mut MemCore<'_>) -> Tested
     requires { IsGoodScriptCore core.old }
 {
     let lost = Conflict {
-        at: cell(rt, core, 0),
+        at: cell(core, 0)?,
         writer: side(0, 1, 1),
         other: solo_side(1, 2, 2),
         asks: true,
@@ -89,16 +84,16 @@ fn writer_is_doomed(rt: &impl Abort, core: &mut MemCore<'_>) -> Tested
         Reply::Committed(1),
         Reply::Lost(lost),
     ];
-    play(rt, core, &list, &wanted)?;
-    assert_eq!(rt; committed(rt, core, 0), 2);
+    play(core, &list, &wanted)?;
+    assert_eq!(rt; committed(core, 0)?, 2);
     Ok(())
 }
 
 /// One that began later and is solo dooms the writer of the Cell that it sets.
 #[test]
 fn solo_wins(rt: HostRuntime) -> Tested {
-    let client = script(&rt, rt.alloc(), &[Act::Set(0, 1)], &[Act::Set(0, 2)])?;
-    let mut core = begun(&rt, rt.alloc(), &client, 1_000)?;
+    let client = script(rt.alloc(), &[Act::Set(0, 1)], &[Act::Set(0, 2)])?;
+    let mut core = begun(rt.alloc(), &client, 1_000)?;
     writer_is_doomed(&rt, &mut core)
 }
 
@@ -124,13 +119,13 @@ fn second_is_told(rt: &impl Abort, core: &mut MemCore<'_>) -> Tested
         Reply::Unsolo(SoloError::Taken { by: 0 }),
         Reply::Skipped,
     ];
-    play(rt, core, &list, &wanted)?;
+    play(core, &list, &wanted)?;
     let running = Slot::Running {
         thread: 2,
         steps: 1,
         solo: false,
     };
-    assert!(rt; slot(rt, core, 1) == running);
+    assert!(rt; slot(core, 1)? == running);
     Ok(())
 }
 
@@ -138,22 +133,21 @@ fn second_is_told(rt: &impl Abort, core: &mut MemCore<'_>) -> Tested
 #[test]
 fn one_is_solo(rt: HostRuntime) -> Tested {
     let client = script(
-        &rt,
         rt.alloc(),
         &[Act::Look(0), Act::Put(65)],
         &[Act::Look(0), Act::Put(66)],
     )?;
-    let mut core = begun(&rt, rt.alloc(), &client, 1_000)?;
+    let mut core = begun(rt.alloc(), &client, 1_000)?;
     second_is_told(&rt, &mut core)
 }
 
 /// Thread 1 pushes, and thread 2 becomes solo, pushes and commits: what thread 1 did is lost.
-fn push_is_lost(rt: &impl Abort, core: &mut MemCore<'_>) -> Tested
+fn push_is_lost(core: &mut MemCore<'_>) -> Tested
     requires { IsGoodScriptCore core.old }
     ensures { IsGoodScriptCore core.new }
 {
     let lost = Conflict {
-        at: cell(rt, core, 2),
+        at: cell(core, 2)?,
         writer: side(0, 1, 1),
         other: solo_side(1, 2, 2),
         asks: true,
@@ -177,42 +171,37 @@ fn push_is_lost(rt: &impl Abort, core: &mut MemCore<'_>) -> Tested
         Reply::Committed(1),
         Reply::Lost(lost),
     ];
-    play(rt, core, &list, &wanted)
+    play(core, &list, &wanted)
 }
 
 /// The push of thread 1 is lost, and is done again after that of thread 2.
 fn pushes_again(rt: &impl Abort, alloc: Global, core: &mut MemCore<'_>) -> Tested
     requires { IsGoodScriptCore core.old }
 {
-    push_is_lost(rt, core)?;
-    assert_eq!(rt; listed(rt, alloc, core, 2)?.as_slice(), [8].as_slice());
-    assert!(rt; slot(rt, core, 0) == Slot::Idle);
+    push_is_lost(core)?;
+    assert_eq!(rt; listed(alloc, core, 2)?.as_slice(), [8].as_slice());
+    assert!(rt; slot(core, 0)? == Slot::Idle);
     let list = [Event::Begin(0, 1), Event::Advance(0, 1)];
     let wanted = [Reply::Begun, Reply::Advanced(Advance::Ran(1))];
-    play(rt, core, &list, &wanted)?;
-    assert_eq!(rt; listed(rt, alloc, core, 0)?.as_slice(), [8, 7].as_slice());
+    play(core, &list, &wanted)?;
+    assert_eq!(rt; listed(alloc, core, 0)?.as_slice(), [8, 7].as_slice());
     Ok(())
 }
 
 /// A push of one that becomes solo is seen by the other, which pushed first and is aborted.
 #[test]
 fn an_aborted_push_is_done_again(rt: HostRuntime) -> Tested {
-    let client = script(
-        &rt,
-        rt.alloc(),
-        &[Act::Push(7), Act::Look(0)],
-        &[Act::Push(8)],
-    )?;
-    let mut core = begun(&rt, rt.alloc(), &client, 1_000)?;
+    let client = script(rt.alloc(), &[Act::Push(7), Act::Look(0)], &[Act::Push(8)])?;
+    let mut core = begun(rt.alloc(), &client, 1_000)?;
     pushes_again(&rt, rt.alloc(), &mut core)
 }
 
 /// Thread 1 dooms thread 2, which is told so where it wants to be solo.
-fn doomed_is_told(rt: &impl Abort, core: &mut MemCore<'_>) -> Tested
+fn doomed_is_told(core: &mut MemCore<'_>) -> Tested
     requires { IsGoodScriptCore core.old }
 {
     let lost = Conflict {
-        at: cell(rt, core, 0),
+        at: cell(core, 0)?,
         writer: side(0, 1, 1),
         other: side(1, 2, 2),
         asks: false,
@@ -236,15 +225,15 @@ fn doomed_is_told(rt: &impl Abort, core: &mut MemCore<'_>) -> Tested
         Reply::Unsolo(SoloError::Lost(lost)),
         Reply::Skipped,
     ];
-    play(rt, core, &list, &wanted)
+    play(core, &list, &wanted)
 }
 
 /// A doomed one that wants to be solo is told the conflict that it lost.
 #[test]
 fn a_doomed_one_is_not_solo(rt: HostRuntime) -> Tested {
-    let client = script(&rt, rt.alloc(), &[Act::Set(0, 1)], &[Act::Look(0)])?;
-    let mut core = begun(&rt, rt.alloc(), &client, 1_000)?;
-    doomed_is_told(&rt, &mut core)
+    let client = script(rt.alloc(), &[Act::Set(0, 1)], &[Act::Look(0)])?;
+    let mut core = begun(rt.alloc(), &client, 1_000)?;
+    doomed_is_told(&mut core)
 }
 
 /// Thread 1 becomes solo and prints.
@@ -266,7 +255,7 @@ fn prints_solo(rt: &impl Abort, core: &mut MemCore<'_>) -> Tested
         Reply::Solo,
         Reply::Advanced(Advance::Ended(2)),
     ];
-    play(rt, core, &list, &wanted)?;
+    play(core, &list, &wanted)?;
     assert!(rt; outcome(core) == RunState::Running);
     Ok(())
 }
@@ -275,12 +264,11 @@ fn prints_solo(rt: &impl Abort, core: &mut MemCore<'_>) -> Tested
 #[test]
 fn the_end_commits_a_solo_one(rt: HostRuntime) -> Tested {
     let client = script(
-        &rt,
         rt.alloc(),
         &[Act::Set(0, 3), Act::Put(65), Act::Put(66)],
         &[Act::Look(1)],
     )?;
-    let mut core = begun(&rt, rt.alloc(), &client, 1_000)?;
+    let mut core = begun(rt.alloc(), &client, 1_000)?;
     prints_solo(&rt, &mut core)?;
     ends(&rt, core, RunState::Running, 2, b"AB");
     Ok(())
@@ -307,9 +295,9 @@ fn second_print_fails(rt: &impl Abort, core: &mut MemCore<'_>) -> Tested
         Reply::Unsolo(SoloError::Over(Cause::WriteFault)),
         Reply::Refused(BeginError::Over(Cause::WriteFault)),
     ];
-    play(rt, core, &list, &wanted)?;
-    assert_eq!(rt; committed(rt, core, 0), 5);
-    assert!(rt; slot(rt, core, 0) == Slot::Idle);
+    play(core, &list, &wanted)?;
+    assert_eq!(rt; committed(core, 0)?, 5);
+    assert!(rt; slot(core, 0)? == Slot::Idle);
     Ok(())
 }
 
@@ -317,20 +305,19 @@ fn second_print_fails(rt: &impl Abort, core: &mut MemCore<'_>) -> Tested
 #[test]
 fn a_fault_ends_the_run(rt: HostRuntime) -> Tested {
     let client = script(
-        &rt,
         rt.alloc(),
         &[Act::Set(0, 5), Act::Put(65), Act::Put(66)],
         &[Act::Look(1)],
     )?;
     let out = failing(rt.alloc(), 2)?;
-    let mut core = begun_over(&rt, rt.alloc(), &client, 1_000, out)?;
+    let mut core = begun_over(rt.alloc(), &client, 1_000, out)?;
     second_print_fails(&rt, &mut core)?;
     ends(&rt, core, RunState::Faulted(Cause::WriteFault), 2, b"A");
     Ok(())
 }
 
 /// Thread 1 is solo, and its first step fails.
-fn first_print_fails(rt: &impl Abort, core: &mut MemCore<'_>) -> Tested
+fn first_print_fails(core: &mut MemCore<'_>) -> Tested
     requires { IsGoodScriptCore core.old }
     ensures { IsGoodScriptCore core.new }
 {
@@ -346,16 +333,16 @@ fn first_print_fails(rt: &impl Abort, core: &mut MemCore<'_>) -> Tested
         Reply::Solo,
         Reply::Failed(Cause::WriteFault),
     ];
-    play(rt, core, &list, &wanted)
+    play(core, &list, &wanted)
 }
 
 /// One whose first step is cut so is dropped.
 #[test]
 fn a_fault_in_the_first_step_leaves_no_turn(rt: HostRuntime) -> Tested {
-    let client = script(&rt, rt.alloc(), &[Act::Put(65)], &[Act::Look(1)])?;
+    let client = script(rt.alloc(), &[Act::Put(65)], &[Act::Look(1)])?;
     let out = failing(rt.alloc(), 1)?;
-    let mut core = begun_over(&rt, rt.alloc(), &client, 1_000, out)?;
-    first_print_fails(&rt, &mut core)?;
+    let mut core = begun_over(rt.alloc(), &client, 1_000, out)?;
+    first_print_fails(&mut core)?;
     ends(&rt, core, RunState::Faulted(Cause::WriteFault), 1, b"");
     Ok(())
 }

@@ -1,13 +1,13 @@
 //! Devices that fail at each of their calls in turn, before their first byte and behind it: the status, what was
 //! written up to then, the conflicts, and the steps of each turn, which are those before the step that failed.
 //! Written by hand from the code of the scripts.
-use crate::call_rows::{NO_FAILURE, Plan, lines_of, report_with, told, turns, words_in};
 use py_data::NoMemory;
 use std::alloc::Global;
 use std::process::Abort;
 use std::sync::Wait;
 use std::test;
 use std::thread::Threads;
+use top_bench::{NO_FAILURE, Plan, lines_of, report_with, told, turns, words_in};
 
 type Tested = Result<(), test::Fail>;
 

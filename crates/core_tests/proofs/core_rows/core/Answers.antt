@@ -1,8 +1,0 @@
-use Rattle.lock_run.specs.inner.ScriptLaws.{script_sound_first}
-use Rattle.core_tests.proofs.core_rows.core.Goals as goal
-
-pub new-requires-2-clause-first : goal.new-requires-2-clause-first
-new-requires-2-clause-first g c = script_sound_first
-
-pub new-requires-2-clause-store : goal.new-requires-2-clause-store
-new-requires-2-clause-store g c = c.in_ok-store.ensures.empty

@@ -1,0 +1,9 @@
+//! The store of pages, tried by rows. It has tests alone.
+#![tactic(auto)]
+
+#[cfg(test)]
+mod acts;
+#[cfg(test)]
+mod judge;
+#[cfg(test)]
+mod page_rows;

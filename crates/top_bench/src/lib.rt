@@ -1,0 +1,9 @@
+//! Calls of the top call over devices in memory, on which crates of tests stand.
+#![tactic(auto)]
+
+mod calls;
+
+pub use calls::{
+    MemReport, NO_FAILURE, Plan, SCRIPTS, lines_of, report, report_with, source_word, told, turns,
+    words_in,
+};
