@@ -1,5 +1,5 @@
 //! A store of pages under test, what its calls are refused with where the heap is full, and what a segment sees.
-use crate::judge::Judge;
+use crate::handle::TestHandle;
 use paged_store::PagedStore;
 use py_data::{Addr, Kind, Value};
 use seg_store::{SegStore, StoreFault};
@@ -19,7 +19,7 @@ pub fn paged(alloc: Global, segments: u8, pages: u32) -> Result<Bench<PagedStore
 
 /// What a make is refused with, as reserved, need and limit.
 pub fn refused<S: SegStore>(
-    rt: &Judge<impl Abort>,
+    rt: &TestHandle<impl Abort>,
     alloc: Global,
     store: &mut Bench<S>,
     k: u8,
@@ -35,13 +35,13 @@ pub fn refused<S: SegStore>(
                 limit,
             },
         ) => Ok((reserved, need, limit)),
-        _ => panic!(rt; "not full"),
+        _ => panic!(&rt.0; "not full"),
     }
 }
 
 /// What a push is refused with.
 pub fn refused_push<S: SegStore>(
-    rt: &Judge<impl Abort>,
+    rt: &TestHandle<impl Abort>,
     store: &mut Bench<S>,
     k: u8,
     a: Addr,
@@ -54,13 +54,13 @@ pub fn refused_push<S: SegStore>(
                 limit,
             },
         ) => (reserved, need, limit),
-        _ => panic!(rt; "not full"),
+        _ => panic!(&rt.0; "not full"),
     }
 }
 
 /// What a pair is refused with.
 pub fn refused_pair<S: SegStore>(
-    rt: &Judge<impl Abort>,
+    rt: &TestHandle<impl Abort>,
     store: &mut Bench<S>,
     k: u8,
     d: Addr,
@@ -74,13 +74,13 @@ pub fn refused_pair<S: SegStore>(
                 limit,
             },
         ) => (reserved, need, limit),
-        _ => panic!(rt; "not full"),
+        _ => panic!(&rt.0; "not full"),
     }
 }
 
 /// A list has the numbers from one on, and as many as are below another.
 pub fn has_numbers<S: SegStore>(
-    rt: &Judge<impl Abort>,
+    rt: &TestHandle<impl Abort>,
     store: &Bench<S>,
     k: u8,
     a: Addr,
@@ -100,7 +100,7 @@ pub fn has_numbers<S: SegStore>(
 
 /// The segment sees the string.
 pub fn has_text<S: SegStore>(
-    rt: &Judge<impl Abort>,
+    rt: &TestHandle<impl Abort>,
     alloc: Global,
     store: &Bench<S>,
     k: u8,

@@ -4,6 +4,6 @@
 #[cfg(test)]
 mod acts;
 #[cfg(test)]
-mod judge;
+mod handle;
 #[cfg(test)]
 mod page_rows;

@@ -1,6 +1,6 @@
 //! The extents that are in use for the records of a store under test, by class, and those that a change of it takes.
 use crate::extents::{Counts, body_class, class_holding, extents};
-use crate::judge::Judge;
+use crate::handle::TestHandle;
 use crate::places::Place;
 use py_data::{Addr, Kind, Record};
 use seg_store::SegStore;
@@ -22,13 +22,18 @@ fn add_beyond(counts: &mut Counts, more: &Counts, base: &Counts) {
 }
 
 /// The extents of a record as a segment sees it.
-fn extents_of<S: SegStore>(rt: &Judge<impl Abort>, store: &Bench<S>, k: u8, a: Addr) -> Counts {
+fn extents_of<S: SegStore>(
+    rt: &TestHandle<impl Abort>,
+    store: &Bench<S>,
+    k: u8,
+    a: Addr,
+) -> Counts {
     let kind = store.kind(rt, k, a);
     extents(kind, store.len(rt, k, a), store.rooms(rt, k, a))
 }
 
 /// The extents of a record of the image. Where the only segment holds it, those are counted that it has there.
-fn extents_in_image<S: SegStore>(rt: &Judge<impl Abort>, store: &Bench<S>, a: Addr) -> Counts {
+fn extents_in_image<S: SegStore>(rt: &TestHandle<impl Abort>, store: &Bench<S>, a: Addr) -> Counts {
     if !store.in_image(a) {
         return [0; 24];
     }
@@ -41,7 +46,12 @@ fn extents_in_image<S: SegStore>(rt: &Judge<impl Abort>, store: &Bench<S>, a: Ad
 }
 
 /// Adds the extents of a record.
-fn add_used<S: SegStore>(rt: &Judge<impl Abort>, store: &Bench<S>, a: Addr, counts: &mut Counts) {
+fn add_used<S: SegStore>(
+    rt: &TestHandle<impl Abort>,
+    store: &Bench<S>,
+    a: Addr,
+    counts: &mut Counts,
+) {
     let image = extents_in_image(rt, store, a);
     add_counts(counts, &image);
     'segments: for k in 0..store.segments() {
@@ -52,7 +62,11 @@ fn add_used<S: SegStore>(rt: &Judge<impl Abort>, store: &Bench<S>, a: Addr, coun
 }
 
 /// How many extents of each class are in use for the records.
-pub fn used<S: SegStore>(rt: &Judge<impl Abort>, store: &Bench<S>, places: &[Place]) -> Counts {
+pub fn used<S: SegStore>(
+    rt: &TestHandle<impl Abort>,
+    store: &Bench<S>,
+    places: &[Place],
+) -> Counts {
     let mut counts = [0; 24];
     'places: for place in places {
         add_used(rt, store, place.0, &mut counts);
@@ -77,7 +91,7 @@ pub fn wanted_new(r: &Record) -> (usize, usize, usize) {
 
 /// The classes of the extents that a record takes to have room for more, if it has none.
 pub fn wanted_more<S: SegStore>(
-    rt: &Judge<impl Abort>,
+    rt: &TestHandle<impl Abort>,
     store: &Bench<S>,
     k: u8,
     a: Addr,

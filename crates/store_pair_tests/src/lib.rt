@@ -6,9 +6,9 @@ mod both;
 #[cfg(test)]
 mod extents;
 #[cfg(test)]
-mod in_use;
+mod handle;
 #[cfg(test)]
-mod judge;
+mod in_use;
 #[cfg(test)]
 mod lists;
 #[cfg(test)]

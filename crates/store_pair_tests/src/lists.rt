@@ -3,7 +3,7 @@
 ghost use Rattle.std.specs.Prelude.{◌≤◌, ◌<◌};
 
 use crate::both::Both;
-use crate::judge::Judge;
+use crate::handle::TestHandle;
 use crate::numbers::Numbers;
 use crate::places::Place;
 use paged_store::PagedStore;
@@ -33,16 +33,16 @@ impl<M: SegStore, P: SegStore> Events<M, P> {
         self.numbers.below(n)
     }
 
-    fn some(&mut self, rt: &Judge<impl Abort>, kind: Option<Kind>) -> Option<Place> {
+    fn some(&mut self, rt: &TestHandle<impl Abort>, kind: Option<Kind>) -> Option<Place> {
         self.both.some(rt, &mut self.numbers, self.k, kind)
     }
 
-    fn ref_to(&mut self, rt: &Judge<impl Abort>, kind: Option<Kind>) -> Value {
+    fn ref_to(&mut self, rt: &TestHandle<impl Abort>, kind: Option<Kind>) -> Value {
         self.both.ref_to(rt, &mut self.numbers, self.k, kind)
     }
 
     /// Some value that is set.
-    fn value(&mut self, rt: &Judge<impl Abort>) -> Value {
+    fn value(&mut self, rt: &TestHandle<impl Abort>) -> Value {
         match self.below(12) {
             0 => Value::None,
             1 => Value::Bool(true),
@@ -57,7 +57,7 @@ impl<M: SegStore, P: SegStore> Events<M, P> {
     }
 
     /// Some value that can be a key.
-    fn key(&mut self, rt: &Judge<impl Abort>) -> Value {
+    fn key(&mut self, rt: &TestHandle<impl Abort>) -> Value {
         match self.below(10) {
             0 => Value::None,
             1 => Value::Bool(true),
@@ -87,7 +87,7 @@ impl<M: SegStore, P: SegStore> Events<M, P> {
     }
 
     /// Some values.
-    fn values(&mut self, rt: &Judge<impl Abort>) -> Result<Values, Fail> {
+    fn values(&mut self, rt: &TestHandle<impl Abort>) -> Result<Values, Fail> {
         let n = match self.below(10) {
             0 => self.below(600),
             1 | 2 | 3 => 0,
@@ -102,7 +102,7 @@ impl<M: SegStore, P: SegStore> Events<M, P> {
     }
 
     /// Makes a record of a few values.
-    fn make(&mut self, rt: &Judge<impl Abort>, kind: Kind, values: &[Value]) -> Tested {
+    fn make(&mut self, rt: &TestHandle<impl Abort>, kind: Kind, values: &[Value]) -> Tested {
         let r = Record {
             kind,
             values: Values::from_slice(self.alloc, values)?,
@@ -111,7 +111,7 @@ impl<M: SegStore, P: SegStore> Events<M, P> {
         self.both.make(rt, self.k, &r)
     }
 
-    fn make_text(&mut self, rt: &Judge<impl Abort>) -> Tested {
+    fn make_text(&mut self, rt: &TestHandle<impl Abort>) -> Tested {
         let r = Record {
             kind: Kind::Str,
             values: Values::new(self.alloc),
@@ -120,7 +120,7 @@ impl<M: SegStore, P: SegStore> Events<M, P> {
         self.both.make(rt, self.k, &r)
     }
 
-    fn make_sequence(&mut self, rt: &Judge<impl Abort>) -> Tested {
+    fn make_sequence(&mut self, rt: &TestHandle<impl Abort>) -> Tested {
         let kind = if self.below(3) == 0 {
             Kind::Tuple
         } else {
@@ -134,7 +134,7 @@ impl<M: SegStore, P: SegStore> Events<M, P> {
         self.both.make(rt, self.k, &r)
     }
 
-    fn make_cell(&mut self, rt: &Judge<impl Abort>) -> Tested {
+    fn make_cell(&mut self, rt: &TestHandle<impl Abort>) -> Tested {
         let v = if self.below(4) == 0 {
             Value::Unset
         } else {
@@ -143,35 +143,35 @@ impl<M: SegStore, P: SegStore> Events<M, P> {
         self.make(rt, Kind::Cell, &[v])
     }
 
-    fn make_function(&mut self, rt: &Judge<impl Abort>) -> Tested {
+    fn make_function(&mut self, rt: &TestHandle<impl Abort>) -> Tested {
         let name = self.ref_to(rt, Some(Kind::Str));
         let defaults = self.ref_to(rt, Some(Kind::Tuple));
         self.make(rt, Kind::Function, &[name, Value::Int(4), defaults])
     }
 
-    fn make_class(&mut self, rt: &Judge<impl Abort>) -> Tested {
+    fn make_class(&mut self, rt: &TestHandle<impl Abort>) -> Tested {
         let name = self.ref_to(rt, Some(Kind::Str));
         let attributes = self.ref_to(rt, Some(Kind::Dict));
         self.make(rt, Kind::Class, &[name, Value::None, attributes])
     }
 
-    fn make_instance(&mut self, rt: &Judge<impl Abort>) -> Tested {
+    fn make_instance(&mut self, rt: &TestHandle<impl Abort>) -> Tested {
         let class = self.ref_to(rt, Some(Kind::Class));
         let attributes = self.ref_to(rt, Some(Kind::Dict));
         self.make(rt, Kind::Instance, &[class, attributes])
     }
 
-    fn make_method(&mut self, rt: &Judge<impl Abort>) -> Tested {
+    fn make_method(&mut self, rt: &TestHandle<impl Abort>) -> Tested {
         let own = self.value(rt);
         self.make(rt, Kind::Method, &[Value::Builtin(3), own])
     }
 
-    fn make_iter(&mut self, rt: &Judge<impl Abort>) -> Tested {
+    fn make_iter(&mut self, rt: &TestHandle<impl Abort>) -> Tested {
         let over = self.ref_to(rt, Some(Kind::List));
         self.make(rt, Kind::Iter, &[over, Value::Int(3), Value::Int(9)])
     }
 
-    fn make_thread(&mut self, rt: &Judge<impl Abort>) -> Tested {
+    fn make_thread(&mut self, rt: &TestHandle<impl Abort>) -> Tested {
         let target = self.value(rt);
         let args = self.ref_to(rt, Some(Kind::Tuple));
         let number = if self.below(2) == 0 {
@@ -186,7 +186,7 @@ impl<M: SegStore, P: SegStore> Events<M, P> {
         )
     }
 
-    fn make_range(&mut self, rt: &Judge<impl Abort>) -> Tested {
+    fn make_range(&mut self, rt: &TestHandle<impl Abort>) -> Tested {
         self.make(
             rt,
             Kind::Range,
@@ -195,7 +195,7 @@ impl<M: SegStore, P: SegStore> Events<M, P> {
     }
 
     /// Makes a record, if what it needs is there.
-    fn make_some(&mut self, rt: &Judge<impl Abort>) -> Tested {
+    fn make_some(&mut self, rt: &TestHandle<impl Abort>) -> Tested {
         match self.below(19) {
             0 | 1 => self.make_text(rt),
             2 | 3 | 4 | 5 => self.make_sequence(rt),
@@ -213,7 +213,11 @@ impl<M: SegStore, P: SegStore> Events<M, P> {
     }
 
     /// A record of a kind that the segment holds, or has locked now, if there is one.
-    fn to_change(&mut self, rt: &Judge<impl Abort>, kind: Kind) -> Result<Option<Place>, Fail> {
+    fn to_change(
+        &mut self,
+        rt: &TestHandle<impl Abort>,
+        kind: Kind,
+    ) -> Result<Option<Place>, Fail> {
         let Some(place) = self.some(rt, Some(kind)) else {
             return Ok(None);
         };
@@ -232,7 +236,7 @@ impl<M: SegStore, P: SegStore> Events<M, P> {
         }
     }
 
-    fn push_some(&mut self, rt: &Judge<impl Abort>) -> Tested {
+    fn push_some(&mut self, rt: &TestHandle<impl Abort>) -> Tested {
         let Some(place) = self.to_change(rt, Kind::List)? else {
             return Ok(());
         };
@@ -246,7 +250,7 @@ impl<M: SegStore, P: SegStore> Events<M, P> {
     }
 
     /// Adds a pair, if its key isn't there; false where the heap is full.
-    fn pair(&mut self, rt: &Judge<impl Abort>, place: Place) -> bool {
+    fn pair(&mut self, rt: &TestHandle<impl Abort>, place: Place) -> bool {
         let key = self.key(rt);
         let v = self.value(rt);
         if self.both.is_new_key(rt, self.k, place, key) {
@@ -256,7 +260,7 @@ impl<M: SegStore, P: SegStore> Events<M, P> {
         }
     }
 
-    fn pair_some(&mut self, rt: &Judge<impl Abort>) -> Tested {
+    fn pair_some(&mut self, rt: &TestHandle<impl Abort>) -> Tested {
         let Some(place) = self.to_change(rt, Kind::Dict)? else {
             return Ok(());
         };
@@ -268,7 +272,7 @@ impl<M: SegStore, P: SegStore> Events<M, P> {
         Ok(())
     }
 
-    fn unpair_some(&mut self, rt: &Judge<impl Abort>) -> Tested {
+    fn unpair_some(&mut self, rt: &TestHandle<impl Abort>) -> Tested {
         let Some(place) = self.to_change(rt, Kind::Dict)? else {
             return Ok(());
         };
@@ -278,7 +282,7 @@ impl<M: SegStore, P: SegStore> Events<M, P> {
         Ok(())
     }
 
-    fn set_some(&mut self, rt: &Judge<impl Abort>) -> Tested {
+    fn set_some(&mut self, rt: &TestHandle<impl Abort>) -> Tested {
         let kind = match self.below(10) {
             0 | 1 | 2 => Kind::List,
             3 | 4 => Kind::Dict,
@@ -301,14 +305,14 @@ impl<M: SegStore, P: SegStore> Events<M, P> {
         Ok(())
     }
 
-    fn cut_some(&mut self, rt: &Judge<impl Abort>) -> Tested {
+    fn cut_some(&mut self, rt: &TestHandle<impl Abort>) -> Tested {
         if let Some(place) = self.to_change(rt, Kind::List)? {
             self.both.cut(rt, &mut self.numbers, self.k, place);
         }
         Ok(())
     }
 
-    fn find_some(&mut self, rt: &Judge<impl Abort>) -> Tested {
+    fn find_some(&mut self, rt: &TestHandle<impl Abort>) -> Tested {
         if let Some(place) = self.some(rt, Some(Kind::Dict)) {
             let key = self.key(rt);
             self.both.is_new_key(rt, self.k, place, key);
@@ -316,14 +320,14 @@ impl<M: SegStore, P: SegStore> Events<M, P> {
         Ok(())
     }
 
-    fn lock_some(&mut self, rt: &Judge<impl Abort>) -> Tested {
+    fn lock_some(&mut self, rt: &TestHandle<impl Abort>) -> Tested {
         if let Some(place) = self.some(rt, None) {
             self.both.lock(rt, self.k, place)?;
         }
         Ok(())
     }
 
-    fn mark_some(&mut self, rt: &Judge<impl Abort>) -> Tested {
+    fn mark_some(&mut self, rt: &TestHandle<impl Abort>) -> Tested {
         if let Some(place) = self.some(rt, None) {
             self.both.mark(rt, self.k, place)?;
         }
@@ -331,7 +335,7 @@ impl<M: SegStore, P: SegStore> Events<M, P> {
     }
 
     /// The segment's transaction ends, and another may begin.
-    fn end(&mut self, rt: &Judge<impl Abort>, how: usize) -> Tested {
+    fn end(&mut self, rt: &TestHandle<impl Abort>, how: usize) -> Tested {
         if how == 0 {
             self.both.drop_changes(rt, self.k);
         } else {
@@ -346,19 +350,19 @@ impl<M: SegStore, P: SegStore> Events<M, P> {
     }
 
     /// The segment's step is taken back.
-    fn undo(&mut self, rt: &Judge<impl Abort>) -> Tested {
+    fn undo(&mut self, rt: &TestHandle<impl Abort>) -> Tested {
         self.both.undo_step(rt, self.k);
         self.both.sweep(rt)?;
         self.both.same_records(rt)
     }
 
-    fn open(&mut self, rt: &Judge<impl Abort>) -> Tested {
+    fn open(&mut self, rt: &TestHandle<impl Abort>) -> Tested {
         self.both.open_step(rt, self.k);
         Ok(())
     }
 
     /// An event of the segment.
-    fn event(&mut self, rt: &Judge<impl Abort>) -> Tested {
+    fn event(&mut self, rt: &TestHandle<impl Abort>) -> Tested {
         match self.below(48) {
             0..=7 => self.make_some(rt),
             8..=10 => self.lock_some(rt),
@@ -388,7 +392,7 @@ fn page_count(numbers: &mut Numbers) -> u32 {
 
 /// Does so many events, each of one of the segments. Answers whether a call of them met a full heap.
 fn do_events<M: SegStore, P: SegStore>(
-    rt: &Judge<impl Abort>,
+    rt: &TestHandle<impl Abort>,
     mut events: Events<M, P>,
     segments: usize,
     n: usize,
@@ -407,20 +411,20 @@ fn do_events<M: SegStore, P: SegStore>(
 
 /// A store of maps and a store of pages, of so many segments.
 fn both_stores(
-    rt: &Judge<impl Abort>,
+    rt: &TestHandle<impl Abort>,
     alloc: Global,
     segments: u8,
     pages: u32,
 ) -> Result<Both<PlainStore, PagedStore>, Fail> {
-    assert!(rt; 1 <= segments && segments <= 8);
-    assert!(rt; 1 <= pages && pages <= 65_536);
+    assert!(&rt.0; 1 <= segments && segments <= 8);
+    assert!(&rt.0; 1 <= pages && pages <= 65_536);
     let maps = Bench::new(alloc, PlainStore::new(alloc, segments)?);
     let paged = Bench::new(alloc, PagedStore::new(alloc, segments, pages)?);
     Ok(Both::new(alloc, maps, paged))
 }
 
 /// Does the list of a seed. Answers whether a call of it met a full heap.
-fn do_list(rt: &Judge<impl Abort>, alloc: Global, seed: u64) -> Result<bool, Fail> {
+fn do_list(rt: &TestHandle<impl Abort>, alloc: Global, seed: u64) -> Result<bool, Fail> {
     let mut numbers = Numbers::new(seed);
     let segments = 1 + numbers.below(4);
     let pages = page_count(&mut numbers);
@@ -436,53 +440,53 @@ fn do_list(rt: &Judge<impl Abort>, alloc: Global, seed: u64) -> Result<bool, Fai
 }
 
 /// Does the lists of 250 seeds, of which some meet a full heap and others don't.
-fn run_lists(rt: &Judge<impl Abort>, alloc: Global, from: u64) -> Tested {
+fn run_lists(rt: &TestHandle<impl Abort>, alloc: Global, from: u64) -> Tested {
     let mut full = 0u64;
     'seeds: for seed in 0..250 {
         if do_list(rt, alloc, from.saturating_add(seed))? {
             full = full.saturating_add(1);
         }
     }
-    assert!(rt; 10 < full && full < 240, "{full}");
+    assert!(&rt.0; 10 < full && full < 240, "{full}");
     Ok(())
 }
 
 #[test]
 fn seeds_from_0(rt: HostRuntime) -> Tested {
-    run_lists(&Judge(&rt), rt.alloc(), 0)
+    run_lists(&TestHandle(&rt), rt.alloc(), 0)
 }
 
 #[test]
 fn seeds_from_250(rt: HostRuntime) -> Tested {
-    run_lists(&Judge(&rt), rt.alloc(), 250)
+    run_lists(&TestHandle(&rt), rt.alloc(), 250)
 }
 
 #[test]
 fn seeds_from_500(rt: HostRuntime) -> Tested {
-    run_lists(&Judge(&rt), rt.alloc(), 500)
+    run_lists(&TestHandle(&rt), rt.alloc(), 500)
 }
 
 #[test]
 fn seeds_from_750(rt: HostRuntime) -> Tested {
-    run_lists(&Judge(&rt), rt.alloc(), 750)
+    run_lists(&TestHandle(&rt), rt.alloc(), 750)
 }
 
 #[test]
 fn seeds_from_1000(rt: HostRuntime) -> Tested {
-    run_lists(&Judge(&rt), rt.alloc(), 1000)
+    run_lists(&TestHandle(&rt), rt.alloc(), 1000)
 }
 
 #[test]
 fn seeds_from_1250(rt: HostRuntime) -> Tested {
-    run_lists(&Judge(&rt), rt.alloc(), 1250)
+    run_lists(&TestHandle(&rt), rt.alloc(), 1250)
 }
 
 #[test]
 fn seeds_from_1500(rt: HostRuntime) -> Tested {
-    run_lists(&Judge(&rt), rt.alloc(), 1500)
+    run_lists(&TestHandle(&rt), rt.alloc(), 1500)
 }
 
 #[test]
 fn seeds_from_1750(rt: HostRuntime) -> Tested {
-    run_lists(&Judge(&rt), rt.alloc(), 1750)
+    run_lists(&TestHandle(&rt), rt.alloc(), 1750)
 }

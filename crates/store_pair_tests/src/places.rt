@@ -1,5 +1,5 @@
 //! The places of records that two stores have, the looks at them, and what is the same in both.
-use crate::judge::Judge;
+use crate::handle::TestHandle;
 use py_data::{Addr, Kind, Record, Value, Values};
 use seg_store::SegStore;
 use std::alloc::Global;
@@ -14,7 +14,7 @@ pub type Place = (Addr, Addr);
 pub type Look = (u8, Place);
 
 /// The value as the second store has it.
-pub fn moved(rt: &Judge<impl Abort>, places: &[Place], v: Value) -> Value {
+pub fn moved(rt: &TestHandle<impl Abort>, places: &[Place], v: Value) -> Value {
     let Value::Ref(a) = v else {
         return v;
     };
@@ -23,12 +23,12 @@ pub fn moved(rt: &Judge<impl Abort>, places: &[Place], v: Value) -> Value {
             return Value::Ref(place.1);
         }
     }
-    panic!(rt; "an address of no record")
+    panic!(&rt.0; "an address of no record")
 }
 
 /// The record as the second store has it.
 pub fn moved_record(
-    rt: &Judge<impl Abort>,
+    rt: &TestHandle<impl Abort>,
     alloc: Global,
     places: &[Place],
     r: &Record,
@@ -47,16 +47,16 @@ pub fn moved_record(
 
 /// The second record is the first one as the second store has it.
 pub fn same_shown(
-    rt: &Judge<impl Abort>,
+    rt: &TestHandle<impl Abort>,
     alloc: Global,
     places: &[Place],
     one: &Record,
     other: &Record,
 ) -> Result<(), Fail> {
     let want = moved_record(rt, alloc, places, one)?;
-    assert!(rt; want.kind == other.kind);
-    assert!(rt; want.values.as_slice() == other.values.as_slice());
-    assert!(rt; want.bytes.as_slice() == other.bytes.as_slice());
+    assert!(&rt.0; want.kind == other.kind);
+    assert!(&rt.0; want.values.as_slice() == other.values.as_slice());
+    assert!(&rt.0; want.bytes.as_slice() == other.bytes.as_slice());
     Ok(())
 }
 
@@ -96,7 +96,7 @@ pub fn looks_without(alloc: Global, looks: &[Look], k: u8) -> Result<Vec<Look>, 
 /// The first place, from one of that number on, of a record of the kind, or of any kind, that the segment sees in the
 /// first store.
 pub fn seen_from<S: SegStore>(
-    rt: &Judge<impl Abort>,
+    rt: &TestHandle<impl Abort>,
     store: &Bench<S>,
     places: &[Place],
     from: usize,

@@ -1,5 +1,5 @@
 //! Stores under test, and a cell that holds a number.
-use crate::judge::Judge;
+use crate::handle::TestHandle;
 use paged_store::PagedStore;
 use py_data::{Addr, Kind, Value};
 use seg_store::{PlainStore, SegStore};
@@ -27,7 +27,7 @@ pub fn paged(alloc: Global, segments: u8, pages: u32) -> Result<Bench<PagedStore
 
 /// A cell that holds a number.
 pub fn make_cell<S: SegStore>(
-    rt: &Judge<impl Abort>,
+    rt: &TestHandle<impl Abort>,
     alloc: Global,
     store: &mut Bench<S>,
     k: u8,

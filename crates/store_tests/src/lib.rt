@@ -4,8 +4,8 @@
 #[cfg(test)]
 mod acts;
 #[cfg(test)]
-mod index_rows;
+mod handle;
 #[cfg(test)]
-mod judge;
+mod index_rows;
 #[cfg(test)]
 mod store_rows;
