@@ -1,5 +1,5 @@
-//! The transactional core, tried by scripts whose transactions print nothing, and by drawn events. It has tests alone, so
-//! the crates that it tries are proved once and wait for no test.
+//! The transactional core, tried by scripts whose transactions print nothing, and by drawn events. It has tests alone,
+//! so the crates that it tries are proved once and wait for no test.
 #![tactic(auto)]
 
 #[cfg(test)]

@@ -1,5 +1,5 @@
-//! Runs of scripts by the top call, tried by hand: devices that fail, several workers, and histories that are run again.
-//! It has tests alone.
+//! Runs of scripts by the top call, tried by hand: devices that fail, several workers, and histories that are run
+//! again. It has tests alone.
 #![tactic(auto)]
 
 #[cfg(test)]
