@@ -18,6 +18,7 @@ use crate::stmt::{Arm, Clause, Handler, Module, Param, Stmt};
 use crate::writer::Writer;
 use py_base::{Bytes, NoMemory};
 use py_tokens::{keyword, operator};
+use sqlite_items::Items;
 use std::alloc::Global;
 
 /// The line of a simple statement.
@@ -117,22 +118,8 @@ fn statement(w: &mut Writer, s: &Stmt) -> Result<(), NoMemory>
             clause_or(w, keyword::ELSE, other)?;
             clause_or(w, keyword::FINALLY, last)
         }
-        Stmt::Def(line, name, params, body) => {
-            def(
-                w,
-                *line,
-                name.as_slice(),
-                params.as_slice(),
-                body.as_slice(),
-            )
-        }
-        Stmt::Class(line, name, base, body) => class(
-            w,
-            *line,
-            name.as_slice(),
-            base,
-            body.as_slice(),
-        ),
+        Stmt::Def(line, name, params, body) => def(w, *line, name, params, body),
+        Stmt::Class(line, name, base, body) => class(w, *line, name, base, body),
     }
 }
 
@@ -182,16 +169,16 @@ fn suite(w: &mut Writer, line: u32, body: &[Stmt]) -> Result<(), NoMemory>
 fn def(
     w: &mut Writer,
     line: u32,
-    name: &[u8],
-    params: &[Param],
-    body: &[Stmt],
+    name: &Bytes,
+    params: &Items<Param>,
+    body: &Items<Stmt>,
 ) -> Result<(), NoMemory>
     ensures { OnOk result (w.new ≡ put_all w.old
         (head line (k.Keyword kw.DEF ∷ k.Name name.now ∷ round (commas (map param_words params.now)))
         ++ block_lexemes line (pieces body.now))) }
 {
-    simple::def_head(w, line, name, params)?;
-    suite(w, line, body)
+    simple::def_head(w, line, name.as_slice(), params.as_slice())?;
+    suite(w, line, body.as_slice())
 }
 
 /// A class's definition.
@@ -199,16 +186,16 @@ fn def(
 fn class(
     w: &mut Writer,
     line: u32,
-    name: &[u8],
+    name: &Bytes,
     base: &Option<Expr>,
-    body: &[Stmt],
+    body: &Items<Stmt>,
 ) -> Result<(), NoMemory>
     ensures { OnOk result (w.new ≡ put_all w.old
         (head line (k.Keyword kw.CLASS ∷ k.Name name.now ∷ base_words base.now)
         ++ block_lexemes line (pieces body.now))) }
 {
-    simple::class_head(w, line, name, base)?;
-    suite(w, line, body)
+    simple::class_head(w, line, name.as_slice(), base)?;
+    suite(w, line, body.as_slice())
 }
 
 /// An arm after this keyword.
