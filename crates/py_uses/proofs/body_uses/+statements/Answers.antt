@@ -72,11 +72,11 @@ handlers-items-preserved t c = (
 
 pub statement-returns-in_ok-arms-in-If : goal.statement-returns-in_ok-arms-in-If
 statement-returns-in_ok-arms-in-If t c =
-    on_ok_weaker c.clause-in-If.result
+    on_ok_weaker c.clause.result
     (λ h. rw (c.in-If.is, uses_if c.args.all.now c.in-If.items c.in-If.otherwise, ← c.as_slice-in-If.ensures)
     (turn c.args.out.now (inside c.args.all.now c.args.b) (arms_uses c.args.all.now c.as_slice-in-If.result.now)
     (clause_uses c.args.all.now c.in-If.otherwise) c.in_ok-arms-in-If.ensures h))
-    c.clause-in-If.ensures
+    c.clause.ensures
 
 pub statement-returns-in_ok-arm-in-While : goal.statement-returns-in_ok-arm-in-While
 statement-returns-in_ok-arm-in-While t c =
@@ -137,8 +137,8 @@ statement-returns-in-Class t c =
     rw (c.in-Class.is, uses_class c.args.all.now c.in-Class.field-0 c.in-Class.name c.in-Class.base c.in-Class.body)
     c.class.ensures
 
-pub def-returns-in_ok-place : goal.def-returns-in_ok-place
-def-returns-in_ok-place t c =
+pub def-returns : goal.def-returns
+def-returns t c =
     on_ok_weaker c.block.result
     (λ h. rw (← c.as_slice.ensures, ← c.as_slice-2.ensures, ← c.as_slice-3.ensures)
     (within c.args.all.now c.args.out.now (inside c.args.all.now c.args.b)
@@ -150,8 +150,8 @@ def-returns-in_ok-place t c =
     c.in_ok-place.ensures.place c.in_ok-place.ensures.next h))
     c.block.ensures
 
-pub class-returns-in_ok-place : goal.class-returns-in_ok-place
-class-returns-in_ok-place t c =
+pub class-returns : goal.class-returns
+class-returns t c =
     on_ok_weaker c.block.result
     (λ h. rw (← c.as_slice.ensures, ← c.as_slice-2.ensures)
     (within c.args.all.now c.args.out.now (inside c.args.all.now c.args.b)
