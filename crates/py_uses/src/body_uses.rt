@@ -118,7 +118,7 @@ fn asserted<'a>(
 
 /// What a statement uses.
 #[cycle(statements)]
-#[tactic(auto, using(crate::proofs::UsedStatements::stmt_rules, crate::proofs::Tallying::tally_append))]
+#[tactic(auto, using(crate::proofs::UsedStatements::stmt_rules))]
 fn statement<'a>(
     out: &mut Tally<'a>,
     all: &[NameSet],
