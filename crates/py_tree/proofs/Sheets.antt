@@ -105,15 +105,18 @@ arms_more word w u total xs i x l e q h =
     ∙ (sym (put_all_append w (lexemes_arm (k.Keyword word) x) (lexemes_arms (k.Keyword keyword.ELIF) rest))
     ∙ (sym (ap (λ z. put_all w (arms_from word z)) (next_item xs i x l e)) ∙ h)))
 
--- a head with its colon
-pub headed : (line : ℕ) (w a b : Writer) (ks : Words) → a ≡ spell line w ks →
-    b ≡ put a (lexeme (k.Op operator.COLON) line) → b ≡ put_all w (head line ks)
-headed line w a b ks e f =
-    f ∙ (ap (λ z. put z (lexeme (k.Op operator.COLON) line)) e
-    ∙ sym (on_spelled line w (ks ++ k.Op operator.COLON ∷ []) ∙ spell_append line w ks (k.Op operator.COLON ∷ [])))
-
 pub followed : (w a b : Writer) (ls ms : List Lexeme) → a ≡ put_all w ls → b ≡ put_all a ms → b ≡ put_all w (ls ++ ms)
 followed w a b ls ms e f = f ∙ (ap (λ z. put_all z ms) e ∙ sym (put_all_append w ls ms))
+
+-- a head, and then its colon and the block
+pub headed : (line : ℕ) (w a b : Writer) (ks : Words) (ps : List Piece) → a ≡ spell line w ks →
+    b ≡ put_all a (lexeme (k.Op operator.COLON) line ∷ block_lexemes line ps) →
+    b ≡ put_all w (head line ks ++ block_lexemes line ps)
+headed line w a b ks ps e f =
+    let colon = lexeme (k.Op operator.COLON) line in
+    followed w (put a colon) b (head line ks) (block_lexemes line ps)
+    (ap (λ z. put z colon) e
+    ∙ sym (on_spelled line w (ks ++ k.Op operator.COLON ∷ []) ∙ spell_append line w ks (k.Op operator.COLON ∷ []))) f
 
 pub handlers_more : (w u total : Writer) (xs : List Handler) (i : ℕ) (x : Handler) → i < length xs → x ≡ get_or xs i x
     → u ≡ put_all w (lexemes_handler x) →
@@ -124,27 +127,26 @@ handlers_more w u total xs i x l e q h =
     ∙ (sym (put_all_append w (lexemes_handler x) rest)
     ∙ (sym (ap (λ z. put_all w (lexemes_handlers z)) (next_item xs i x l e)) ∙ h))
 
-pub handler_written : (w a b u : Writer) (h : Handler) (ss : List Stmt) → ss ≡ h.body →
+pub handler_written : (w a u : Writer) (h : Handler) (ss : List Stmt) → ss ≡ h.body →
     a ≡ spell h.line w (k.Keyword keyword.EXCEPT ∷ expr_or h.test ++ led_or (k.Keyword keyword.AS) h.target) →
-    b ≡ put a (lexeme (k.Op operator.COLON) h.line) → u ≡ put_all b (block_lexemes h.line (pieces ss)) →
+    u ≡ put_all a (lexeme (k.Op operator.COLON) h.line ∷ block_lexemes h.line (pieces ss)) →
     u ≡ put_all w (lexemes_handler h)
-handler_written w a b u h ss same e f g =
-    let ks = k.Keyword keyword.EXCEPT ∷ expr_or h.test ++ led_or (k.Keyword keyword.AS) h.target in
-    followed w b u (head h.line ks) (block_lexemes h.line (pieces h.body)) (headed h.line w a b ks e f)
-    (g ∙ ap (λ z. put_all b (block_lexemes h.line (pieces z))) same)
+handler_written w a u h ss same e f =
+    headed h.line w a u (k.Keyword keyword.EXCEPT ∷ expr_or h.test ++ led_or (k.Keyword keyword.AS) h.target)
+    (pieces h.body) e
+    (f ∙ ap (λ z. put_all a (lexeme (k.Op operator.COLON) h.line ∷ block_lexemes h.line (pieces z))) same)
 
-pub for_written : (w a b d u : Writer) (line : ℕ) (target over : Expr) (body ss : List Stmt) (other : Option Clause)
+pub for_written : (w a b u : Writer) (line : ℕ) (target over : Expr) (body ss : List Stmt) (other : Option Clause)
     (s : Stmt) → s ≡ stmt.For line target over body other → ss ≡ body →
     a ≡ spell line w (k.Keyword keyword.FOR ∷ words target ++ k.Keyword keyword.IN ∷ words over) →
-    b ≡ put a (lexeme (k.Op operator.COLON) line) → d ≡ put_all b (block_lexemes line (pieces ss)) →
-    u ≡ put_all d (lexemes_clause_or (k.Keyword keyword.ELSE) other) →
+    b ≡ put_all a (lexeme (k.Op operator.COLON) line ∷ block_lexemes line (pieces ss)) →
+    u ≡ put_all b (lexemes_clause_or (k.Keyword keyword.ELSE) other) →
     u ≡ put_all w (piece_lexemes (piece s))
-for_written w a b d u line target over body ss other s is same e f g h =
+for_written w a b u line target over body ss other s is same e f g =
     let ks = k.Keyword keyword.FOR ∷ words target ++ k.Keyword keyword.IN ∷ words over in
-    let block = block_lexemes line (pieces body) in
-    followed w d u (head line ks ++ block) (lexemes_clause_or (k.Keyword keyword.ELSE) other)
-    (followed w b d (head line ks) block (headed line w a b ks e f)
-    (g ∙ ap (λ z. put_all b (block_lexemes line (pieces z))) same)) h
+    followed w b u (head line ks ++ block_lexemes line (pieces body)) (lexemes_clause_or (k.Keyword keyword.ELSE) other)
+    (headed line w a b ks (pieces body) e
+    (f ∙ ap (λ z. put_all a (lexeme (k.Op operator.COLON) line ∷ block_lexemes line (pieces z))) same)) g
     ∙ sym (ap (λ z. put_all w (piece_lexemes z)) (ap piece is ∙ piece_for line target over body other))
 
 pub try_written : (w a b d u : Writer) (first : Clause) (each hs : List Handler) (other last : Option Clause)

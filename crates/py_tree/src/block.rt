@@ -1,18 +1,24 @@
 //! Statements with their blocks, and the text of a module.
 #![tactic(auto, using(crate::proofs::Sheets::sheet_laws))]
 
-ghost use Rattle.std.specs.Prelude.{◌≡◌, IfOk, OnOk};
+ghost use Rattle.std.specs.Prelude.{◌≡◌, ◌∷◌, ◌++◌, map, IfOk, OnOk};
+ghost use Rattle.py_tokens.specs.declared.keyword.TheConstants as kw;
+ghost use Rattle.py_tokens.specs.declared.operator.TheConstants as op;
 ghost use Rattle.py_tokens.specs.declared.token.TokenKind.TheVariants as k;
-ghost use Rattle.py_tree.specs.Canonical.{begins_on, in_order, block_lexemes, piece, pieces, module_text};
+ghost use Rattle.py_tree.specs.Canonical.{begins_on, in_order, block_lexemes, param_words, base_words, head, piece, pieces, module_text};
+ghost use Rattle.py_tree.specs.Lexeme.{lexeme};
+ghost use Rattle.py_tree.specs.Spelling.{commas, round};
 ghost use Rattle.py_tree.specs.inner.Clauses.{lexemes_arm, lexemes_if, lexemes_clause, lexemes_clause_or, lexemes_handlers, simple_line, piece_lexemes, joint};
 ghost use Rattle.py_tree.specs.inner.Page.{put_all};
 
+use crate::expr::Expr;
 use crate::simple;
 use crate::spell::expression;
-use crate::stmt::{Arm, Clause, Handler, Module, Stmt};
+use crate::stmt::{Arm, Clause, Handler, Module, Param, Stmt};
 use crate::writer::Writer;
 use py_base::{Bytes, NoMemory};
 use py_tokens::{keyword, operator};
+use sqlite_items::Items;
 use std::alloc::Global;
 
 /// The line of a simple statement.
@@ -103,8 +109,7 @@ fn statement(w: &mut Writer, s: &Stmt) -> Result<(), NoMemory>
         }
         Stmt::For(line, target, over, body, other) => {
             simple::for_head(w, *line, target, over)?;
-            w.operator(*line, operator::COLON)?;
-            block(w, *line, body.as_slice())?;
+            suite(w, *line, body.as_slice())?;
             clause_or(w, keyword::ELSE, other)
         }
         Stmt::Try(first, each, other, last) => {
@@ -113,16 +118,8 @@ fn statement(w: &mut Writer, s: &Stmt) -> Result<(), NoMemory>
             clause_or(w, keyword::ELSE, other)?;
             clause_or(w, keyword::FINALLY, last)
         }
-        Stmt::Def(line, name, params, body) => {
-            simple::def_head(w, *line, name.as_slice(), params.as_slice())?;
-            w.operator(*line, operator::COLON)?;
-            block(w, *line, body.as_slice())
-        }
-        Stmt::Class(line, name, base, body) => {
-            simple::class_head(w, *line, name.as_slice(), base)?;
-            w.operator(*line, operator::COLON)?;
-            block(w, *line, body.as_slice())
-        }
+        Stmt::Def(line, name, params, body) => def(w, *line, name, params, body),
+        Stmt::Class(line, name, base, body) => class(w, *line, name, base, body),
     }
 }
 
@@ -157,6 +154,50 @@ fn block(w: &mut Writer, line: u32, body: &[Stmt]) -> Result<(), NoMemory>
     }
 }
 
+/// The colon of a clause of this line, and the clause's block.
+#[cycle(writing)]
+fn suite(w: &mut Writer, line: u32, body: &[Stmt]) -> Result<(), NoMemory>
+    ensures { OnOk result (w.new
+        ≡ put_all w.old (lexeme (k.Op op.COLON) line ∷ block_lexemes line (pieces body.now))) }
+{
+    w.operator(line, operator::COLON)?;
+    block(w, line, body)
+}
+
+/// A function's definition.
+#[cycle(writing)]
+fn def(
+    w: &mut Writer,
+    line: u32,
+    name: &Bytes,
+    params: &Items<Param>,
+    body: &Items<Stmt>,
+) -> Result<(), NoMemory>
+    ensures { OnOk result (w.new ≡ put_all w.old
+        (head line (k.Keyword kw.DEF ∷ k.Name name.now ∷ round (commas (map param_words params.now)))
+        ++ block_lexemes line (pieces body.now))) }
+{
+    simple::def_head(w, line, name.as_slice(), params.as_slice())?;
+    suite(w, line, body.as_slice())
+}
+
+/// A class's definition.
+#[cycle(writing)]
+fn class(
+    w: &mut Writer,
+    line: u32,
+    name: &Bytes,
+    base: &Option<Expr>,
+    body: &Items<Stmt>,
+) -> Result<(), NoMemory>
+    ensures { OnOk result (w.new ≡ put_all w.old
+        (head line (k.Keyword kw.CLASS ∷ k.Name name.now ∷ base_words base.now)
+        ++ block_lexemes line (pieces body.now))) }
+{
+    simple::class_head(w, line, name.as_slice(), base)?;
+    suite(w, line, body.as_slice())
+}
+
 /// An arm after this keyword.
 #[cycle(writing)]
 fn arm(w: &mut Writer, word: u8, a: &Arm) -> Result<(), NoMemory>
@@ -164,8 +205,7 @@ fn arm(w: &mut Writer, word: u8, a: &Arm) -> Result<(), NoMemory>
 {
     w.keyword(a.line, word)?;
     expression(w, a.line, &a.test)?;
-    w.operator(a.line, operator::COLON)?;
-    block(w, a.line, a.body.as_slice())
+    suite(w, a.line, a.body.as_slice())
 }
 
 /// `if`, and each `elif`.
@@ -187,8 +227,7 @@ fn clause(w: &mut Writer, word: u8, c: &Clause) -> Result<(), NoMemory>
     ensures { OnOk result (w.new ≡ put_all w.old (lexemes_clause (k.Keyword word) c.now)) }
 {
     w.keyword(c.line, word)?;
-    w.operator(c.line, operator::COLON)?;
-    block(w, c.line, c.body.as_slice())
+    suite(w, c.line, c.body.as_slice())
 }
 
 /// A clause after this keyword, if there is one.
@@ -209,8 +248,7 @@ fn handlers(w: &mut Writer, each: &[Handler]) -> Result<(), NoMemory>
 {
     for h in each {
         simple::except_head(w, h.line, &h.test, &h.target)?;
-        w.operator(h.line, operator::COLON)?;
-        block(w, h.line, h.body.as_slice())?;
+        suite(w, h.line, h.body.as_slice())?;
     }
     Ok(())
 }

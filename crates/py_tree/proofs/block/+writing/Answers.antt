@@ -13,11 +13,10 @@ arms-loop-a-preserved t c = arms_more c.loop-a.word c.loop-a.w c.arm.new.w _ c.a
 
 pub handlers-loop-h-preserved : goal.handlers-loop-h-preserved
 handlers-loop-h-preserved t c =
-    handlers_more c.loop-h.w c.block.new.w _ c.args.each.now c.loop-h.h-index c.h-item.result c.loop-h-test.true
+    handlers_more c.loop-h.w c.suite.new.w _ c.args.each.now c.loop-h.h-index c.h-item.result c.loop-h-test.true
     c.h-item.is
-    (handler_written c.loop-h.w c.except_head.new.w c.operator.new.self c.block.new.w c.h-item.result
-    c.as_slice.result.now c.as_slice.ensures c.in_ok-except_head.ensures c.in_ok-operator.ensures
-    c.in_ok-block.ensures)
+    (handler_written c.loop-h.w c.except_head.new.w c.suite.new.w c.h-item.result c.as_slice.result.now
+    c.as_slice.ensures c.in_ok-except_head.ensures c.in_ok-suite.ensures)
     c.loop-h.invariant
 
 pub statements-loop-s-preserved : goal.statements-loop-s-preserved
@@ -26,13 +25,13 @@ statements-loop-s-preserved t c =
     c.args.ss.now c.loop-s.s-index c.s-item.result c.loop-s-test.true c.s-item.is c.line_of-line.ensures
     c.in_ok-join.ensures c.in_ok-statement.ensures c.loop-s.invariant
 
-pub statement-returns-in_ok-block-in-For : goal.statement-returns-in_ok-block-in-For
-statement-returns-in_ok-block-in-For t c =
+pub statement-returns-in_ok-suite-in-For : goal.statement-returns-in_ok-suite-in-For
+statement-returns-in_ok-suite-in-For t c =
     on_ok_weaker c.clause_or-in-For.result
-    (λ h. for_written c.args.w.now c.for_head.new.w c.operator.new.self c.block.new.w c.clause_or-in-For.new.w
+    (λ h. for_written c.args.w.now c.for_head.new.w c.suite.new.w c.clause_or-in-For.new.w
     c.in-For.line c.in-For.target c.in-For.over c.in-For.body c.as_slice-in-For.result.now c.in-For.other
     c.args.s.now c.in-For.is c.as_slice-in-For.ensures
-    c.in_ok-for_head-in-For.ensures c.in_ok-operator-in-For.ensures c.in_ok-block-in-For.ensures h)
+    c.in_ok-for_head-in-For.ensures c.in_ok-suite-in-For.ensures h)
     c.clause_or-in-For.ensures
 
 pub statement-returns-in_ok-clause_or-in-Try : goal.statement-returns-in_ok-clause_or-in-Try

@@ -1,5 +1,6 @@
 use Rattle.std.proofs.Common.{ap, ◌∙◌, ◌++◌, arith, refl, sym, true, false}
 use Rattle.std.proofs.lemmas.Grind.{common_steps}
+use Rattle.std.proofs.lemmas.Result.{on_ok_weaker}
 use Rattle.py_tree.specs.Tall.{tall, talls, tall_arms, tall_handlers}
 use Rattle.py_tree.proofs.Talls.{tall_for, tall_try}
 use Rattle.py_uses.specs.inner.Tallies.{arm_uses, arms_uses, block_uses, clause_uses, done, handler_uses, handlers_uses, inside, locals_in}
@@ -69,21 +70,26 @@ handlers-items-preserved t c = (
   (let e = ap tall_handlers c.in-Some.ensures in omega (arith, e, c.items.invariant.1)),
 )
 
-pub statement-returns-in_ok-clause-in-If : goal.statement-returns-in_ok-clause-in-If
-statement-returns-in_ok-clause-in-If t c =
-    rw (c.in-If.is, uses_if c.args.all.now c.in-If.items c.in-If.otherwise, ← c.as_slice-in-If.ensures)
+pub statement-returns-in_ok-arms-in-If : goal.statement-returns-in_ok-arms-in-If
+statement-returns-in_ok-arms-in-If t c =
+    on_ok_weaker c.clause.result
+    (λ h. rw (c.in-If.is, uses_if c.args.all.now c.in-If.items c.in-If.otherwise, ← c.as_slice-in-If.ensures)
     (turn c.args.out.now (inside c.args.all.now c.args.b) (arms_uses c.args.all.now c.as_slice-in-If.result.now)
-    (clause_uses c.args.all.now c.in-If.otherwise) c.in_ok-arms-in-If.ensures c.in_ok-clause-in-If.ensures)
+    (clause_uses c.args.all.now c.in-If.otherwise) c.in_ok-arms-in-If.ensures h))
+    c.clause.ensures
 
-pub statement-returns-in_ok-clause-in-While : goal.statement-returns-in_ok-clause-in-While
-statement-returns-in_ok-clause-in-While t c =
-    rw (c.in-While.is, uses_while c.args.all.now c.in-While.x c.in-While.otherwise)
+pub statement-returns-in_ok-arm-in-While : goal.statement-returns-in_ok-arm-in-While
+statement-returns-in_ok-arm-in-While t c =
+    on_ok_weaker c.clause-in-While.result
+    (λ h. rw (c.in-While.is, uses_while c.args.all.now c.in-While.x c.in-While.otherwise)
     (turn c.args.out.now (inside c.args.all.now c.args.b) (arm_uses c.args.all.now c.in-While.x)
-    (clause_uses c.args.all.now c.in-While.otherwise) c.in_ok-arm-in-While.ensures c.in_ok-clause-in-While.ensures)
+    (clause_uses c.args.all.now c.in-While.otherwise) c.in_ok-arm-in-While.ensures h))
+    c.clause-in-While.ensures
 
-pub statement-returns-in_ok-clause-in-For : goal.statement-returns-in_ok-clause-in-For
-statement-returns-in_ok-clause-in-For t c =
-    rw (
+pub statement-returns-in_ok-block-in-For : goal.statement-returns-in_ok-block-in-For
+statement-returns-in_ok-block-in-For t c =
+    on_ok_weaker c.clause-in-For.result
+    (λ h. rw (
       c.in-For.is,
       uses_for c.args.all.now c.in-For.field-0 c.in-For.target c.in-For.e c.in-For.body
           c.in-For.otherwise,
@@ -97,11 +103,13 @@ statement-returns-in_ok-clause-in-For t c =
     c.in_ok-expression-in-For-2.ensures)
     (turn c.expression-in-For-2.new.out (inside c.args.all.now c.args.b)
     (block_uses c.args.all.now c.as_slice-in-For.result.now) (clause_uses c.args.all.now c.in-For.otherwise)
-    c.in_ok-block-in-For.ensures c.in_ok-clause-in-For.ensures))
+    c.in_ok-block-in-For.ensures h)))
+    c.clause-in-For.ensures
 
-pub statement-returns-in_ok-clause-in-Try-2 : goal.statement-returns-in_ok-clause-in-Try-2
-statement-returns-in_ok-clause-in-Try-2 t c =
-    rw (
+pub statement-returns-in_ok-clause-in-Try : goal.statement-returns-in_ok-clause-in-Try
+statement-returns-in_ok-clause-in-Try t c =
+    on_ok_weaker c.clause-in-Try-2.result
+    (λ h. rw (
       c.in-Try.is,
       uses_try c.args.all.now c.in-Try.x c.in-Try.items c.in-Try.otherwise c.in-Try.last,
       ← c.as_slice-in-Try.ensures,
@@ -116,37 +124,41 @@ statement-returns-in_ok-clause-in-Try-2 t c =
     (in_turn (clause_uses c.args.all.now c.in-Try.otherwise) (clause_uses c.args.all.now c.in-Try.last))
     c.in_ok-handlers-in-Try.ensures
     (turn c.handlers.new.out (inside c.args.all.now c.args.b) (clause_uses c.args.all.now c.in-Try.otherwise)
-    (clause_uses c.args.all.now c.in-Try.last) c.in_ok-clause-in-Try.ensures c.in_ok-clause-in-Try-2.ensures)))
+    (clause_uses c.args.all.now c.in-Try.last) c.in_ok-clause-in-Try.ensures h))))
+    c.clause-in-Try-2.ensures
 
-pub statement-returns-in_ok-block-in-Def : goal.statement-returns-in_ok-block-in-Def
-statement-returns-in_ok-block-in-Def t c =
-    rw (
-      c.in-Def.is,
-      uses_def c.args.all.now c.in-Def.field-0 c.in-Def.name c.in-Def.params c.in-Def.body,
-      ← c.as_slice-in-Def.ensures,
-      ← c.as_slice-in-Def-2.ensures,
-      ← c.as_slice-in-Def-3.ensures,
-    )
-    (within c.args.all.now c.args.out.now (inside c.args.all.now c.args.b)
-    (λ b. name_bound b c.as_slice-in-Def.result.now ++ read_defaults b c.as_slice-in-Def-2.result.now) false
-    (block_uses c.args.all.now c.as_slice-in-Def-3.result.now) c.in_ok-place-in-Def.place
-    (two c.args.out.now (name_bound (inside c.args.all.now c.args.b) c.as_slice-in-Def.result.now)
-    (read_defaults (inside c.args.all.now c.args.b) c.as_slice-in-Def-2.result.now)
-    c.in_ok-bind_name-in-Def.ensures c.in_ok-defaults-in-Def.ensures)
-    c.in_ok-place-in-Def.ensures.place c.in_ok-place-in-Def.ensures.next c.in_ok-block-in-Def.ensures)
+pub statement-returns-in-Def : goal.statement-returns-in-Def
+statement-returns-in-Def t c =
+    rw (c.in-Def.is, uses_def c.args.all.now c.in-Def.field-0 c.in-Def.name c.in-Def.params c.in-Def.body)
+    c.def.ensures
 
-pub statement-returns-in_ok-block-in-Class : goal.statement-returns-in_ok-block-in-Class
-statement-returns-in_ok-block-in-Class t c =
-    rw (
-      c.in-Class.is,
-      uses_class c.args.all.now c.in-Class.field-0 c.in-Class.name c.in-Class.base c.in-Class.body,
-      ← c.as_slice-in-Class.ensures,
-      ← c.as_slice-in-Class-2.ensures,
-    )
+pub statement-returns-in-Class : goal.statement-returns-in-Class
+statement-returns-in-Class t c =
+    rw (c.in-Class.is, uses_class c.args.all.now c.in-Class.field-0 c.in-Class.name c.in-Class.base c.in-Class.body)
+    c.class.ensures
+
+pub def-returns : goal.def-returns
+def-returns t c =
+    on_ok_weaker c.block.result
+    (λ h. rw (← c.as_slice.ensures, ← c.as_slice-2.ensures, ← c.as_slice-3.ensures)
     (within c.args.all.now c.args.out.now (inside c.args.all.now c.args.b)
-    (λ b. name_bound b c.as_slice-in-Class.result.now ++ read_some b c.in-Class.base) true
-    (block_uses c.args.all.now c.as_slice-in-Class-2.result.now) c.in_ok-place-in-Class.place
-    (two c.args.out.now (name_bound (inside c.args.all.now c.args.b) c.as_slice-in-Class.result.now)
-    (read_some (inside c.args.all.now c.args.b) c.in-Class.base) c.in_ok-bind_name-in-Class.ensures
-    c.in_ok-some-in-Class.ensures)
-    c.in_ok-place-in-Class.ensures.place c.in_ok-place-in-Class.ensures.next c.in_ok-block-in-Class.ensures)
+    (λ b. name_bound b c.as_slice.result.now ++ read_defaults b c.as_slice-2.result.now) false
+    (block_uses c.args.all.now c.as_slice-3.result.now) c.in_ok-place.place
+    (two c.args.out.now (name_bound (inside c.args.all.now c.args.b) c.as_slice.result.now)
+    (read_defaults (inside c.args.all.now c.args.b) c.as_slice-2.result.now)
+    c.in_ok-bind_name.ensures c.in_ok-defaults.ensures)
+    c.in_ok-place.ensures.place c.in_ok-place.ensures.next h))
+    c.block.ensures
+
+pub class-returns : goal.class-returns
+class-returns t c =
+    on_ok_weaker c.block.result
+    (λ h. rw (← c.as_slice.ensures, ← c.as_slice-2.ensures)
+    (within c.args.all.now c.args.out.now (inside c.args.all.now c.args.b)
+    (λ b. name_bound b c.as_slice.result.now ++ read_some b c.args.base.now) true
+    (block_uses c.args.all.now c.as_slice-2.result.now) c.in_ok-place.place
+    (two c.args.out.now (name_bound (inside c.args.all.now c.args.b) c.as_slice.result.now)
+    (read_some (inside c.args.all.now c.args.b) c.args.base.now) c.in_ok-bind_name.ensures
+    c.in_ok-some.ensures)
+    c.in_ok-place.ensures.place c.in_ok-place.ensures.next h))
+    c.block.ensures

@@ -27,6 +27,12 @@ decreases-handlers-items l = length l.rest
 abbrev pub decreases-statement : goal.decreases-statement
 decreases-statement l = 8 * tall l.x.now
 
+abbrev pub decreases-def : goal.decreases-def
+decreases-def l = 8 * talls l.body.now + 3
+
+abbrev pub decreases-class : goal.decreases-class
+decreases-class l = 8 * talls l.body.now + 3
+
 abbrev pub decreases-block : goal.decreases-block
 decreases-block l = 8 * talls l.items.now + 2
 
