@@ -2,4 +2,4 @@ use Rattle.core_bench.specs.ScriptCore.{IsGoodScriptCore}
 use Rattle.core_tests.proofs.core_rows.look_often.Given as goal
 
 abbrev pub invariant-times : goal.invariant-times
-invariant-times g l = IsGoodScriptCore l.core
+invariant-times l = IsGoodScriptCore l.core
