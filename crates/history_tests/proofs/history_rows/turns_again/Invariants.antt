@@ -2,7 +2,7 @@ use Rattle.lock_run.specs.LockState.{lock_state, lock_client, IsSound}
 use Rattle.py_frames.specs.Sound.{Sound}
 use Rattle.py_step.specs.Client.{program_in}
 use Rattle.stm_io.specs.Memory.{mem_sink_state, mem_source_state}
-use Rattle.run_tests.proofs.history_rows.turns_again.Given as goal
+use Rattle.history_tests.proofs.history_rows.turns_again.Given as goal
 
 abbrev pub invariant-turns : goal.invariant-turns
 invariant-turns g l = IsSound (Sound (program_in (lock_client l.run)))
