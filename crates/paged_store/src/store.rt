@@ -1,5 +1,5 @@
 //! A store of records in words.
-ghost use Rattle.std.specs.Prelude.{◌≡◌, ℕ, ◌*◌, ◌<◌, ◌≤◌, false, [], is_some, length, slice_get, Some, IsOk, OnOk, OnErr, IfOk};
+ghost use Rattle.std.specs.Prelude.{◌≡◌, ℕ, ◌*◌, ◌<◌, ◌≤◌, true, false, [], is_some, length, slice_get, Some, IsOk, OnOk, OnErr, IfOk};
 ghost use Rattle.py_data.specs.Heap.{Has};
 ghost use Rattle.seg_store.specs.Meaning.{sees, holds};
 ghost use Rattle.seg_store.specs.Store.{NoOther, IsHolder, IsStore, IsEmpty};
@@ -149,11 +149,13 @@ impl PagedStore {
         Ok(())
     }
 
-    /// A segment takes the write lock of a record, which counts as a look at it.
+    /// A segment takes the write lock of a record, which counts as a look at it. Where it holds the record it takes no
+    /// memory.
     pub fn take_lock(&mut self, k: u8, a: Addr) -> Result<(), NoMemory>
         requires segment { k < (paged_meaning self.old).segments }
         requires there { Has (sees (paged_meaning self.old) k) a.0 }
         requires free { NoOther (paged_meaning self.old) k a.0 }
+        ensures held { holds ((paged_meaning self.old).part k) a.0 ≡ true → IsOk result }
         ensures ok { OnOk result (paged_meaning self.new ≡ after_lock k a.0 (paged_meaning self.old)) }
         ensures err { OnErr result (paged_meaning self.new ≡ paged_meaning self.old) }
         ensures reserved { reserved_of self.new ≡ reserved_of self.old }

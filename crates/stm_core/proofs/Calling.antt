@@ -198,8 +198,8 @@ module _ {C S I O E T : Type 0} (input : I → SourceState) (out : O → SinkSta
 
   module _ (x y : Core C S I O E T) (leads : Outer T → Outer T → Type 0) (q : Quiet x y leads)
       (good : IsGoodCore input out err prog sound reserved meaning x) where
-    same_devices : core_devices input out err y ≡ core_devices input out err x
-    same_devices i = device_state input out err (q.rest i).devices
+    pub quiet_devices : core_devices input out err y ≡ core_devices input out err x
+    quiet_devices i = device_state input out err (q.rest i).devices
 
     led_on : LeadsBetween (CoreStands input out err prog meaning x)
         (StandsFor (prog x.client.now) x.length (first_devices input out err x) (core_devices input out err y)
@@ -207,7 +207,7 @@ module _ {C S I O E T : Type 0} (input : I → SourceState) (out : O → SinkSta
     led_on o s = let z = q.led o s in (
       z.0,
       subst (λ d. StandsFor (prog x.client.now) x.length (first_devices input out err x) d (meaning y.store) y.books
-          z.0) (sym same_devices) z.1,
+          z.0) (sym quiet_devices) z.1,
       z.2,
     )
 
@@ -226,7 +226,7 @@ module _ {C S I O E T : Type 0} (input : I → SourceState) (out : O → SinkSta
       count = q.count;
       kept = q.kept;
       sane = subst (λ d. SaneCore (prog x.client.now) (sound x.client.now) x.length (first_devices input out err x) d
-          (meaning y.store) y.books) (sym same_devices)
+          (meaning y.store) y.books) (sym quiet_devices)
           (sane_led (prog x.client.now) (sound x.client.now) x.length (first_devices input out err x)
           (core_devices input out err x) (core_devices input out err x) (meaning x.store) (meaning y.store) x.books
           y.books leads good.sane q.led good.sane.counts q.rose);

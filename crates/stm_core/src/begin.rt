@@ -36,7 +36,7 @@ impl<'p, C: Client, S: SegStore, I: Source, O: Sink, E: Sink> Core<'p, C, S, I, 
     ghost use Rattle.stm_core.specs.Outside.{InCore};
     ghost use Rattle.stm_segment.specs.Books.{one_running, Worlds, core_of};
     ghost use Rattle.stm_core.specs.inner.Whole.{Whole, SameShape};
-    ghost use Rattle.stm_core.specs.CoreHeld.{core_client, core_limits, core_store, Leads, IsGoodCore, SameJob};
+    ghost use Rattle.stm_core.specs.CoreHeld.{core_client, core_devices, core_limits, core_store, Leads, IsGoodCore, SameJob};
     ghost use Rattle.stm_core.specs.Begun.{Begun, IsFresh};
 
     /// A transaction of the thread, as it begins, and room for its turn and a conflict.
@@ -113,6 +113,8 @@ impl<'p, C: Client, S: SegStore, I: Source, O: Sink, E: Sink> Core<'p, C, S, I, 
         ensures begun { Leads I.state O.state E.state C.prog S.meaning self.old self.new
             (InCore (Begun (C.prog (core_client self.old)) k t (core_limits S.meaning self.old).budget result)) }
         ensures peaks { S.peaks (core_store self.new) ≡ S.peaks (core_store self.old) }
+        ensures devices { core_devices I.state O.state E.state self.new
+            ≡ core_devices I.state O.state E.state self.old }
     {
         self.store.known();
         if let Some(cause) = self.books.cause {

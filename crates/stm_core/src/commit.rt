@@ -49,7 +49,7 @@ impl<'p, C: Client, S: SegStore, I: Source, O: Sink, E: Sink> Core<'p, C, S, I, 
     ghost use Rattle.stm_core.specs.inner.Trying.{core_with};
     ghost use Rattle.stm_core.specs.Events.{may_make};
     ghost use Rattle.stm_core.specs.declared.events.Event.{Event};
-    ghost use Rattle.stm_core.specs.CoreHeld.{core_client, core_limits, core_store, Says, Leads, IsGoodCore, SameJob};
+    ghost use Rattle.stm_core.specs.CoreHeld.{core_client, core_devices, core_limits, core_store, Says, Leads, IsGoodCore, SameJob};
     ghost use Rattle.stm_core.specs.Begun.{CountsSteps};
     ghost use Rattle.stm_core.specs.inner.Readers.{place_of, read_at, Beats, FirstBeats};
     ghost use Rattle.stm_core.specs.Committed.{CommitEnds, Committed};
@@ -251,6 +251,8 @@ impl<'p, C: Client, S: SegStore, I: Source, O: Sink, E: Sink> Core<'p, C, S, I, 
         ensures committed { Leads I.state O.state E.state C.prog S.meaning self.old self.new
             (InCore (Committed (C.prog (core_client self.old)) k (core_limits S.meaning self.old).segments result)) }
         ensures peaks { S.peaks (core_store self.new) ≡ S.peaks (core_store self.old) }
+        ensures devices { core_devices I.state O.state E.state self.new
+            ≡ core_devices I.state O.state E.state self.old }
     {
         match self.books.take(k) {
             Hand::Runs(work) => {

@@ -31,7 +31,7 @@ impl<'p, C: Client, S: SegStore, I: Source, O: Sink, E: Sink> Core<'p, C, S, I, 
     ghost use Rattle.stm_segment.specs.CoreState.{IsShort};
     ghost use Rattle.stm_core.specs.Begun.{CountsSteps};
     ghost use Rattle.stm_segment.specs.Books.{Fit};
-    ghost use Rattle.stm_core.specs.CoreHeld.{core_client, core_limits, core_store, Says, Leads, IsGoodCore, SameJob};
+    ghost use Rattle.stm_core.specs.CoreHeld.{core_client, core_devices, core_limits, core_store, Says, Leads, IsGoodCore, SameJob};
     ghost use Rattle.stm_core.specs.Pieces.{FitsSegment, IsInstalled};
     ghost use Rattle.stm_core.specs.inner.PutIn.{HasPutIn, HasFailed};
     ghost use Rattle.stm_core.specs.inner.Replayed.{CanReplay};
@@ -108,6 +108,8 @@ impl<'p, C: Client, S: SegStore, I: Source, O: Sink, E: Sink> Core<'p, C, S, I, 
             (core_limits S.meaning self.old).words (piece_state p.view).loaned (piece_state p.view).heap p.steps
             (last_of p.start p.last) result o o1) }
         ensures peaks { S.peaks (core_store self.new) ≡ S.peaks (core_store self.old) }
+        ensures devices { core_devices I.state O.state E.state self.new
+            ≡ core_devices I.state O.state E.state self.old }
     {
         self.store.known();
         match self.books.take(k) {

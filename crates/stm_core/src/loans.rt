@@ -156,7 +156,7 @@ impl<'p, C: Client, S: SegStore, I: Source, O: Sink, E: Sink> Core<'p, C, S, I, 
     ghost use Rattle.stm_segment.specs.declared.books.Work.{Work};
     ghost use Rattle.stm_segment.specs.declared.books.Hand.TheVariants.{Runs};
     ghost use Rattle.stm_segment.specs.Books.{runs_at};
-    ghost use Rattle.stm_core.specs.CoreHeld.{core_client, core_limits, core_store, Says, Leads, IsGoodCore, SameJob};
+    ghost use Rattle.stm_core.specs.CoreHeld.{core_client, core_devices, core_limits, core_store, Says, Leads, IsGoodCore, SameJob};
     ghost use Rattle.stm_core.specs.Pieces.{MayLoan, IsLoaned};
     ghost use Rattle.stm_core.specs.inner.Lent.{IsLoanOf, IsLoanFrom};
 
@@ -236,6 +236,8 @@ impl<'p, C: Client, S: SegStore, I: Source, O: Sink, E: Sink> Core<'p, C, S, I, 
         ensures loaned { Leads I.state O.state E.state C.prog S.meaning self.old self.new
             (λ o o1. IsLoaned (C.prog (core_client self.old)) (core_limits S.meaning self.old).length k result o o1) }
         ensures peaks { S.peaks (core_store self.new) ≡ S.peaks (core_store self.old) }
+        ensures devices { core_devices I.state O.state E.state self.new
+            ≡ core_devices I.state O.state E.state self.old }
     {
         self.store.known();
         if self.books.runs(k) {

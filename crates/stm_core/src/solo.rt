@@ -29,7 +29,7 @@ impl<'p, C: Client, S: SegStore, I: Source, O: Sink, E: Sink> Core<'p, C, S, I, 
     ghost use Rattle.stm_core.specs.Events.{may_make};
     ghost use Rattle.stm_core.specs.declared.events.Event.{Event};
     ghost use Rattle.stm_core.specs.declared.solo.SoloError.TheVariants.{Taken};
-    ghost use Rattle.stm_core.specs.CoreHeld.{core_client, core_limits, core_store, Says, Leads, IsGoodCore, SameJob};
+    ghost use Rattle.stm_core.specs.CoreHeld.{core_client, core_devices, core_limits, core_store, Says, Leads, IsGoodCore, SameJob};
 
     /// The transaction of segment k, which was taken out of its hand, becomes solo, unless another one is, and is put
     /// back.
@@ -70,6 +70,8 @@ impl<'p, C: Client, S: SegStore, I: Source, O: Sink, E: Sink> Core<'p, C, S, I, 
         ensures job { SameJob S.meaning self.old self.new }
         ensures soloed { Leads I.state O.state E.state C.prog S.meaning self.old self.new (Soloed k result) }
         ensures peaks { S.peaks (core_store self.new) ≡ S.peaks (core_store self.old) }
+        ensures devices { core_devices I.state O.state E.state self.new
+            ≡ core_devices I.state O.state E.state self.old }
     {
         self.store.known();
         if let Some(cause) = self.books.cause {

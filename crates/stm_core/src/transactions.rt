@@ -44,10 +44,11 @@ pub struct Core<'p, C: Client, S, I, O, E> {
 
 impl<'p, C: Client, S: SegStore, I: Source, O: Sink, E: Sink> Core<'p, C, S, I, O, E> {
     ghost use Rattle.std.specs.Prelude.{◌≡◌, true, IfOk, OnErr};
-    ghost use Rattle.stm_core.specs.CoreHeld.{core_client, core_limits, core_store, Says, Leads, IsGoodCore, SameJob};
+    ghost use Rattle.stm_core.specs.CoreHeld.{core_client, core_devices, core_limits, core_store, Says, Leads, IsGoodCore, SameJob};
     ghost use Rattle.stm_core.specs.declared.events.Event.{Event};
     ghost use Rattle.stm_core.specs.Events.{may_make, Made, EventMade, EventsMade};
     ghost use Rattle.stm_core.specs.History.{AllLeave, IsGrown};
+    ghost use Rattle.stm_segment.specs.Devices.{CountsGrow};
 
     /// The length that it was made with: the most steps of a transaction.
     pub fn length(&self) -> u64
@@ -106,6 +107,8 @@ impl<'p, C: Client, S: SegStore, I: Source, O: Sink, E: Sink> Core<'p, C, S, I, 
         ensures job { SameJob S.meaning self.old self.new }
         ensures made { Leads I.state O.state E.state C.prog S.meaning self.old self.new
             (Made (C.prog (core_client self.old)) (core_limits S.meaning self.old) (Event.Piece k most) result) }
+        ensures counts { CountsGrow (core_devices I.state O.state E.state self.old)
+            (core_devices I.state O.state E.state self.new) }
     {
         if !self.may_loan(k) {
             return Reply::Skipped;
@@ -129,6 +132,8 @@ impl<'p, C: Client, S: SegStore, I: Source, O: Sink, E: Sink> Core<'p, C, S, I, 
         ensures job { SameJob S.meaning self.old self.new }
         ensures made { Leads I.state O.state E.state C.prog S.meaning self.old self.new
             (EventMade (C.prog (core_client self.old)) (core_limits S.meaning self.old) event result) }
+        ensures counts { CountsGrow (core_devices I.state O.state E.state self.old)
+            (core_devices I.state O.state E.state self.new) }
     {
         if !self.can_make(event) {
             return Reply::Skipped;
@@ -154,6 +159,8 @@ impl<'p, C: Client, S: SegStore, I: Source, O: Sink, E: Sink> Core<'p, C, S, I, 
             o1.core
             × IsGrown replies.items o.core o1.core)) }
         ensures none { OnErr result (self.new ≡ self.old) }
+        ensures counts { CountsGrow (core_devices I.state O.state E.state self.old)
+            (core_devices I.state O.state E.state self.new) }
     {
         let mut replies = Vec::new(self.alloc);
         replies.reserve(list.len())?;

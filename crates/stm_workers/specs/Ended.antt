@@ -1,4 +1,4 @@
--- That the run of a core has ended. States `docs/HEAP.md`, "Workers".
+-- That the run of a core has ended, or goes on. States `docs/HEAP.md`, "Workers".
 use Rattle.std.specs.Prelude.{◌≢◌}
 use Rattle.stm_io.specs.Outside.{SourceState, SinkState}
 use Rattle.lock_run.specs.Prog.{Prog}
@@ -16,3 +16,9 @@ pub record HasEnded {C S I O E T : Type 0} (input : I → SourceState) (out : O 
   pub is : Says input out err prog meaning x
       (λ o. IsOutcome (prog (core_client x)) (core_limits meaning x).budget o.core state)
   pub over : state ≢ Running
+
+-- the run goes on
+abbrev pub GoesOn : {C S I O E T : Type 0} → (I → SourceState) → (O → SinkState) → (E → SinkState) → (C → Prog T) →
+    (S → Meaning) → Core C S I O E T → Type 0
+GoesOn input out err prog meaning x = Says input out err prog meaning x
+    (λ o. IsOutcome (prog (core_client x)) (core_limits meaning x).budget o.core Running)

@@ -5,7 +5,7 @@ ghost use Rattle.stm_core.specs.Events.{is_busy, is_within, may_make};
 ghost use Rattle.stm_core.specs.declared.events.Event.{Event};
 ghost use Rattle.stm_workers.specs.CoreJob.{core_job};
 ghost use Rattle.stm_pieces.specs.PieceBy.{IsPieceBy};
-ghost use Rattle.stm_workers.specs.Ended.{HasEnded};
+ghost use Rattle.stm_workers.specs.Ended.{GoesOn, HasEnded};
 ghost use Rattle.stm_workers.specs.Errands.{IsRunnable};
 ghost use Rattle.stm_workers.specs.Growth.{Grows};
 
@@ -290,7 +290,8 @@ fn has_ended<C: Client, S: SegStore, I: Source, O: Sink, E: Sink>(
     core: &Core<'_, C, S, I, O, E>,
 ) -> bool
     requires good { IsGoodCore I.state O.state E.state C.prog C.sound S.reserved S.meaning core.now }
-    ensures { result ≡ true → HasEnded I.state O.state E.state C.prog S.meaning core.now }
+    ensures yes { result ≡ true → HasEnded I.state O.state E.state C.prog S.meaning core.now }
+    ensures not { result ≡ false → GoesOn I.state O.state E.state C.prog S.meaning core.now }
 {
     match core.outcome() {
         RunState::Running => false,
@@ -410,6 +411,8 @@ fn go_round<C: Client, S: SegStore, I: Source, O: Sink, E: Sink>(
     ensures job { SameJob S.meaning core.old core.new }
     ensures grows { Grows I.state O.state E.state C.prog S.meaning S.peaks core.old core.new }
     ensures over { result.0 ≡ Finding.Ended → HasEnded I.state O.state E.state C.prog S.meaning core.new }
+    ensures same { result.0 ≡ Finding.Ended → core.new ≡ core.old }
+    ensures going { result.0 ≢ Finding.Ended → GoesOn I.state O.state E.state C.prog S.meaning core.old }
 {
     if has_ended(core) {
         return (Finding::Ended, 0);
@@ -434,6 +437,8 @@ pub fn visit<C: Client, S: SegStore, I: Source, O: Sink, E: Sink>(
     ensures job { core_job S.meaning core.new ≡ core_job S.meaning core.old }
     ensures grows { Grows I.state O.state E.state C.prog S.meaning S.peaks core.old core.new }
     ensures over { result ≡ Finding.Ended → HasEnded I.state O.state E.state C.prog S.meaning core.new }
+    ensures same { result ≡ Finding.Ended → core.new ≡ core.old }
+    ensures going { result ≢ Finding.Ended → GoesOn I.state O.state E.state C.prog S.meaning core.old }
 {
     go_round(core, k, None, true).0
 }
@@ -478,6 +483,8 @@ pub fn visit_with<C: Client, S: SegStore, I: Source, O: Sink, E: Sink>(
     ensures job { core_job S.meaning core.new ≡ core_job S.meaning core.old }
     ensures grows { Grows I.state O.state E.state C.prog S.meaning S.peaks core.old core.new }
     ensures over { result.0 ≡ Finding.Ended → HasEnded I.state O.state E.state C.prog S.meaning core.new }
+    ensures same { result.0 ≡ Finding.Ended → core.new ≡ core.old }
+    ensures going { result.0 ≢ Finding.Ended → GoesOn I.state O.state E.state C.prog S.meaning core.old }
     ensures loan { IfSome result.2 (IsRunnable C.prog C.sound (core_client core.old)) }
 {
     let tells = tells(&piece);

@@ -9,7 +9,7 @@ use Rattle.stm_core.specs.inner.Whole.{SameShape}
 use Rattle.stm_core.specs.Begun.{IsUnready, Begun, CountsSteps}
 use Rattle.seg_store.specs.Store.{IsStore}
 use Rattle.stm_core.specs.Outside.{InCore}
-use Rattle.stm_core.proofs.Calling.{blank, Quiet, quiet_good, quiet_job, quiet_leads, rose_same, with_spent, begun_kept, le_same}
+use Rattle.stm_core.proofs.Calling.{blank, Quiet, quiet_devices, quiet_good, quiet_job, quiet_leads, rose_same, with_spent, begun_kept, le_same}
 use Rattle.stm_core.proofs.Beginning.{Rooms, rooms_made, whole_roomy, core_roomy_in, sound_core, caused_whole, begun_state, begun_stands}
 use Rattle.stm_core.proofs.transactions.Core.begin.Goals as goal
 
@@ -109,6 +109,8 @@ returns-in-Ok g c =
       begun = quiet_leads g.I.Source.state g.O.Sink.state g.E.Sink.state g.C.Client.prog g.C.Client.sound
           g.S.SegStore.reserved g.S.SegStore.meaning x y _ q c.requires.good;
       peaks = c.start.ensures.peaks ∙ ap (λ z. g.S.SegStore.peaks z.store) e.rest;
+      devices = quiet_devices g.I.Source.state g.O.Sink.state g.E.Sink.state g.C.Client.prog g.C.Client.sound
+          g.S.SegStore.reserved g.S.SegStore.meaning x y _ q c.requires.good;
     }
 
 pub returns-in-Err : goal.returns-in-Err
@@ -166,4 +168,6 @@ returns-in-Err g c =
       begun = quiet_leads g.I.Source.state g.O.Sink.state g.E.Sink.state g.C.Client.prog g.C.Client.sound
           g.S.SegStore.reserved g.S.SegStore.meaning x y _ q c.requires.good;
       peaks = ap (λ z. g.S.SegStore.peaks z.store) e.rest;
+      devices = quiet_devices g.I.Source.state g.O.Sink.state g.E.Sink.state g.C.Client.prog g.C.Client.sound
+          g.S.SegStore.reserved g.S.SegStore.meaning x y _ q c.requires.good;
     }

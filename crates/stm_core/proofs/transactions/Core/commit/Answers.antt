@@ -10,7 +10,7 @@ use Rattle.stm_core.specs.Outside.{InCore}
 use Rattle.stm_segment.proofs.Fits.{get_set_same}
 use Rattle.stm_core.proofs.Wholes.{Set, taken}
 use Rattle.stm_core.proofs.Publishing.{emptied, thread_there, number_alone, committed_taken, committed_doomed, committed_stands}
-use Rattle.stm_core.proofs.Calling.{ending_now, Quiet, quiet_good, quiet_job, quiet_leads, full_same, rose_same, le_same}
+use Rattle.stm_core.proofs.Calling.{ending_now, Quiet, quiet_devices, quiet_good, quiet_job, quiet_leads, full_same, rose_same, le_same}
 use Rattle.stm_core.proofs.StandsAgain.{good_now}
 use Rattle.stm_core.proofs.transactions.Core.commit.Goals as goal
 
@@ -91,6 +91,8 @@ returns-in-Runs g c =
       committed = quiet_leads g.I.Source.state g.O.Sink.state g.E.Sink.state g.C.Client.prog g.C.Client.sound
           g.S.SegStore.reserved g.S.SegStore.meaning x y _ q c.requires.good;
       peaks = e.ended.peaks;
+      devices = quiet_devices g.I.Source.state g.O.Sink.state g.E.Sink.state g.C.Client.prog g.C.Client.sound
+          g.S.SegStore.reserved g.S.SegStore.meaning x y _ q c.requires.good;
     }
 
 pub returns-in-Doomed : goal.returns-in-Doomed
@@ -130,4 +132,5 @@ returns-in-Doomed g c =
       committed = quiet_leads g.I.Source.state g.O.Sink.state g.E.Sink.state g.C.Client.prog g.C.Client.sound
           g.S.SegStore.reserved g.S.SegStore.meaning x y _ q c.requires.good;
       peaks = refl;
+      devices = refl;
     }

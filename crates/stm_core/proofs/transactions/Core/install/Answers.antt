@@ -7,7 +7,7 @@ use Rattle.stm_core.specs.CoreHeld.{core_devices, first_devices, IsFullKept}
 use Rattle.stm_core.specs.Pieces.{IsInstalled}
 use Rattle.stm_core.specs.SaneCore.{CauseRose}
 use Rattle.stm_core.proofs.Wholes.{Set, set_here, taken}
-use Rattle.stm_core.proofs.Calling.{Quiet, quiet_good, quiet_leads, full_same}
+use Rattle.stm_core.proofs.Calling.{Quiet, quiet_devices, quiet_good, quiet_leads, full_same}
 use Rattle.stm_core.proofs.TakenSteps.{sane_out, thread_out}
 use Rattle.stm_core.proofs.InstallCalls.{full_first, rose_first, none_fits, install_led, install_cause, fits_now, can_now}
 use Rattle.stm_core.proofs.transactions.Core.install.Given as given
@@ -124,5 +124,10 @@ returns-clause-good g c = quiet_good g.I.Source.state g.O.Sink.state g.E.Sink.st
 
 pub returns-clause-installed : goal.returns-clause-installed
 returns-clause-installed g c = quiet_leads g.I.Source.state g.O.Sink.state g.E.Sink.state g.C.Client.prog
+    g.C.Client.sound g.S.SegStore.reserved g.S.SegStore.meaning c.args.self.now c.install_out-result.new.self _
+    (went g c) c.requires.good
+
+pub returns-clause-devices : goal.returns-clause-devices
+returns-clause-devices g c = quiet_devices g.I.Source.state g.O.Sink.state g.E.Sink.state g.C.Client.prog
     g.C.Client.sound g.S.SegStore.reserved g.S.SegStore.meaning c.args.self.now c.install_out-result.new.self _
     (went g c) c.requires.good

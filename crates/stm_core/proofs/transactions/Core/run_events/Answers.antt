@@ -1,6 +1,7 @@
 use Rattle.std.proofs.Common.{rules, arith}
 use Rattle.stm_core.specs.CoreHeld.{core_client, core_limits}
 use Rattle.stm_core.proofs.Calling.{same_then}
+use Rattle.stm_core.proofs.Counting.{counts_then}
 use Rattle.stm_core.proofs.EventSteps.{turn, ended}
 use Rattle.stm_core.proofs.Histories.{all_leave, all_grown}
 use Rattle.stm_core.proofs.transactions.Core.run_events.Goals as goal
@@ -22,6 +23,7 @@ events-preserved g c = record {
             o z.0 v.0 z.2 (search (rules)) c.events.invariant.job.client c.events.invariant.job.limits v.2
             (search (rules)),
       );
+  counts = counts_then _ _ _ c.events.invariant.counts c.make-reply.ensures.counts;
   room = search (rules, arith);
 }
 

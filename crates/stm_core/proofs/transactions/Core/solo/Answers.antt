@@ -9,7 +9,7 @@ use Rattle.stm_core.specs.CoreHeld.{core_limits}
 use Rattle.stm_core.specs.Solo.{Soloed}
 use Rattle.stm_core.proofs.Wholes.{Set, set_here, taken}
 use Rattle.stm_core.proofs.Publishing.{emptied}
-use Rattle.stm_core.proofs.Calling.{ending_now, Quiet, quiet_good, quiet_job, quiet_leads, full_same, rose_same, le_same}
+use Rattle.stm_core.proofs.Calling.{ending_now, Quiet, quiet_devices, quiet_good, quiet_job, quiet_leads, full_same, rose_same, le_same}
 use Rattle.stm_core.proofs.Soloing.{out_led, led_same, doomed_stands, over_stands}
 use Rattle.stm_core.proofs.transactions.Core.solo.Given as given
 use Rattle.stm_core.proofs.transactions.Core.solo.Goals.{After-solo_out, In-Doomed}
@@ -83,6 +83,7 @@ returns-in-Doomed g c =
       soloed = quiet_leads g.I.Source.state g.O.Sink.state g.E.Sink.state g.C.Client.prog g.C.Client.sound
           g.S.SegStore.reserved g.S.SegStore.meaning x y _ (doomed g c) c.requires.good;
       peaks = refl;
+      devices = refl;
     }
 
 went : (g : given.Over) (c : After-solo_out g) → Quiet g.I.Source.state g.O.Sink.state g.E.Sink.state g.C.Client.prog
@@ -137,4 +138,6 @@ returns-in-Runs g c =
       soloed = quiet_leads g.I.Source.state g.O.Sink.state g.E.Sink.state g.C.Client.prog g.C.Client.sound
           g.S.SegStore.reserved g.S.SegStore.meaning x y _ (went g c) c.requires.good;
       peaks = ap (λ z. g.S.SegStore.peaks z.store) c.solo_out.ensures.rest;
+      devices = quiet_devices g.I.Source.state g.O.Sink.state g.E.Sink.state g.C.Client.prog g.C.Client.sound
+          g.S.SegStore.reserved g.S.SegStore.meaning x y _ (went g c) c.requires.good;
     }
