@@ -14,6 +14,7 @@ use Rattle.front_laws.specs.Spells.{Is, Whole, Spells}
 use Rattle.front_laws.specs.Fronts.{HasNoFront}
 use Rattle.front_laws.specs.Pieces as p
 use Rattle.front_laws.specs.Pieces.{BeginsString, TooWide, IsNoSpace, Cause, Pieces}
+use Rattle.front_laws.proofs.PieceLemmas.{first_or}
 use Rattle.front_laws.proofs.Tables.{never}
 
 -- ---- a whole number has a digit, which spells a number
@@ -53,10 +54,6 @@ bad_cause c cs (OpenString l) none string cause =
     absurd (string (cause.1.quoting, cause.1.prefix, cause.1.inner, cause.1.opens))
 bad_cause c cs (BadEscape l) none string cause = absurd (string (bad_escape_begins c.line l (c ∷ cs) cause))
 bad_cause c cs _ none string cause = absurd cause
-
-first_or : Character → List Character → Character
-first_or d [] = d
-first_or d (c ∷ cs) = c
 
 rest_of : List Character → List Character
 rest_of [] = []

@@ -220,7 +220,8 @@ piece_cases : (size : ℕ) (c : Character) (cs : List Character) (b : Bool) (r s
 piece_cases size c cs true r s f g = f refl
 piece_cases size c cs false r s f g = g refl
 
-first_or : Character → List Character → Character
+-- the first character, if there is one
+unfoldable pub first_or : Character → List Character → Character
 first_or d [] = d
 first_or d (c ∷ cs) = c
 
