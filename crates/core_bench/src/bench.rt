@@ -1,10 +1,10 @@
 //! Cores of scripts over a store of maps: how one is made, the replies that its events are to have, and what is read of
 //! it. What isn't so is a test's failure, which its caller hands on.
-ghost use Rattle.std.specs.Prelude.{◌≤◌, IfOk};
-ghost use Rattle.core_bench.specs.ScriptCore.{IsGoodScriptCore};
+ghost use Rattle.std.specs.Prelude.{◌≡◌, ◌↔◌, ◌≤◌, IfOk, IsTrue};
+ghost use Rattle.core_bench.specs.ScriptCore.{IsGoodScriptCore, HasMade};
 
 use lock_run::{Act, Acts, Script};
-use py_data::{Addr, Side, Value};
+use py_data::{Addr, Conflict, Side, Value};
 use seg_store::{PlainStore, SegStore};
 use std::alloc::Global;
 use std::test::Fail;
@@ -69,13 +69,49 @@ fn core<'p>(
     }
 }
 
+/// Two conflicts are equal.
+fn same_conflict(came: Conflict, wanted: Conflict) -> bool
+    ensures { IsTrue result ↔ (came ≡ wanted) }
+{
+    came == wanted
+}
+
+/// Two replies are equal.
+fn same_reply(came: Reply, wanted: Reply) -> bool
+    ensures { IsTrue result ↔ (came ≡ wanted) }
+{
+    match came {
+        Reply::Refused(e) => matches!(wanted, Reply::Refused(f) if e == f),
+        Reply::Unsolo(e) => matches!(wanted, Reply::Unsolo(f) if e == f),
+        Reply::Lost(e) => matches!(wanted, Reply::Lost(f) if same_conflict(e, f)),
+        Reply::Failed(e) => matches!(wanted, Reply::Failed(f) if e == f),
+        _ => came == wanted,
+    }
+}
+
+/// Two lists of replies are equal.
+fn same_replies(came: &[Reply], wanted: &[Reply]) -> bool
+    ensures { IsTrue result ↔ (came.now ≡ wanted.now) }
+{
+    if came.len() != wanted.len() {
+        return false;
+    }
+    'replies: for i in 0..came.len() {
+        if !same_reply(came[i], wanted[i]) {
+            return false;
+        }
+    }
+    true
+}
+
 /// Makes events, and compares their replies.
 pub fn play(core: &mut MemCore<'_>, list: &[Event], wanted: &[Reply]) -> Tested
     requires { IsGoodScriptCore core.old }
-    ensures { IsGoodScriptCore core.new }
+    ensures good { IsGoodScriptCore core.new }
+    ensures made { IfOk result (λ u. HasMade list.now wanted.now core.old core.new) }
 {
     let replies = core.run_events(list)?;
-    if replies.as_slice() == wanted {
+    if same_replies(replies.as_slice(), wanted) {
         Ok(())
     } else {
         Err(Fail::new(format_args!("replies {:?}, wanted {wanted:?}", replies.as_slice())))
