@@ -1,9 +1,7 @@
 -- The changes of a piece, made in a store one after another, are what its steps leave.
-use Rattle.std.proofs.Common.{◌≡◌, ◌≢◌, ℕ, ◌+◌, ◌≤◌, true, false, cond, eqb, List, [], ◌∷◌, drop, length, slice_get, Option, Some, None, IsSome, is_some, refl, sym, ◌∙◌, ap, subst, inl, inr}
+use Rattle.std.proofs.Common.{◌≡◌, ◌≢◌, ℕ, ◌+◌, true, false, cond, eqb, List, [], ◌∷◌, drop, slice_get, Option, Some, None, IsSome, is_some, refl, sym, ◌∙◌, ap, subst, inl, inr}
 use Rattle.std.proofs.lemmas.Bool.{cases_Bool, both_ways, cond-true, cond-false, eqb-true, eqb-false, eq-eqb}
-use Rattle.std.proofs.lemmas.List.{drop_more, drop_all}
 use Rattle.std.proofs.lemmas.List.Elements.{All-weaker}
-use Rattle.std.proofs.lemmas.Option.{slice_get_within, get_or_from_slice_get}
 use Rattle.py_base.specs.declared.kind.Kind.{Kind}
 use Rattle.py_data.specs.declared.value.Addr.{Addr}
 use Rattle.py_data.specs.declared.value.Value.{Value}
@@ -35,7 +33,7 @@ use Rattle.stm_core.specs.Good.{Good}
 use Rattle.stm_core.specs.Moves.{Follows, Move, Begins, Drops, Dooms, Loses, Goes, Rests, Commits, Keeps}
 use Rattle.stm_core.specs.Outside.{Outer, Kept, OuterLed}
 use Rattle.stm_core.specs.Pieces.{IsLoan, Fits, FitsSegment, IsOwnStep, HasInstalled}
-use Rattle.stm_core.specs.inner.Replayed.{replayed, CanReplay, OnlyChanges, Replaying}
+use Rattle.stm_core.specs.inner.Replayed.{replayed, CanReplay, OnlyChanges}
 use Rattle.stm_core.specs.inner.Trying.{core_with}
 use Rattle.stm_core.proofs.Installing.{Moved, install_law, over_some, again}
 use Rattle.stm_core.proofs.InnerMoves.{IsGoing, going_led}
@@ -249,34 +247,6 @@ module _ (k : ℕ) (locked : Marks) where
         some = λ a. l.some a ∙ some_after k locked g m e.0.0 e.1 r.0 carries r.1 a;
         has = λ a s. l.has a (has_after k locked g m e.0.0 e.1 r.0 carries r.1 a s);
       }
-
--- ---- a loop over them
-
-drop_here : {A : Type 0} (xs : List A) (i : ℕ) (x : A) → slice_get xs i ≡ Some x → drop i xs ≡ x ∷ drop (i + 1) xs
-drop_here xs i x e = drop_more xs i x (slice_get_within xs i x e) ∙
-    ap (λ z. z ∷ drop (i + 1) xs) (get_or_from_slice_get xs i x x e)
-
-module _ (k : ℕ) (es : List (Addr × Change)) (m : Meaning) where
-  pub replaying_first : CanReplay k es m → Replaying k es m 0 m
-  replaying_first can = record { only = only_same k m; can = can; leads = refl }
-
-  -- the next one can be made
-  pub replaying_can : (i : ℕ) (m1 : Meaning) (e : Addr × Change) → slice_get es i ≡ Some e → Replaying k es m i m1 →
-      CanReplay k (e ∷ drop (i + 1) es) m1
-  replaying_can i m1 e is r = subst (λ xs. CanReplay k xs m1) (drop_here es i e is) r.can
-
-  -- and once it was made the loop is one further
-  pub replaying_next : (i : ℕ) (m1 m2 : Meaning) (e : Addr × Change) → slice_get es i ≡ Some e →
-      Replaying k es m i m1 → m2 ≡ after_change k e.0.0 (after e.1) m1 → Replaying k es m (i + 1) m2
-  replaying_next i m1 m2 e is r made = subst (Replaying k es m (i + 1)) (sym made) (record {
-    only = only_then k m m1 (after_change k e.0.0 (after e.1) m1) r.only (only_change k e.0.0 (after e.1) m1);
-    can = (replaying_can i m1 e is r).3;
-    leads = sym (ap (λ xs. replayed k xs m1) (drop_here es i e is)) ∙ r.leads;
-  })
-
-  -- after the last one
-  pub replaying_last : (i : ℕ) (m1 : Meaning) → length es ≤ i → Replaying k es m i m1 → m1 ≡ replayed k es m
-  replaying_last i m1 h r = sym (ap (λ xs. replayed k xs m1) (drop_all i es h)) ∙ r.leads
 
 -- ---- the core's state
 
