@@ -1,2 +1,2 @@
-pub mod ScriptCore
+pub mod Segments
 pub mod Turns

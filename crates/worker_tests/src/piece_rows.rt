@@ -1,8 +1,8 @@
 //! Workers that run pieces between their visits to a core: a gate counts the threads whose pieces pass it.
 ghost use Rattle.std.specs.Prelude.{IfOk};
-ghost use Rattle.worker_tests.specs.ScriptCore.{IsGoodScriptCore};
+ghost use Rattle.core_bench.specs.ScriptCore.{IsGoodScriptCore};
 
-use crate::watch_rows::{MemCore, empty_devices};
+use core_bench::{MemCore, Tested, sink, source};
 use lock_run::{Act, Acts, Script};
 use seg_store::PlainStore;
 use std::alloc::Global;
@@ -12,8 +12,6 @@ use std::test;
 use stm_core::{Core, RunState};
 use stm_io::{Gate, OpenGate};
 use stm_workers::run_workers;
-
-type Tested = Result<(), test::Fail>;
 
 /// How often a thread sets its Cell and looks at it.
 const TIMES: i64 = 300;
@@ -67,7 +65,7 @@ fn core<'p>(
 {
     assert!(rt; 1 <= segments && segments <= 8);
     let store = PlainStore::new(alloc, segments)?;
-    let (input, out, err) = empty_devices(alloc);
+    let (input, out, err) = (source(alloc), sink(alloc), sink(alloc));
     match Core::new(alloc, client, store, 1_000, 10_000, input, out, err) {
         Ok(core) => Ok(core),
         Err(_) => Err("no memory".into()),

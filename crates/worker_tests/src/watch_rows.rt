@@ -1,13 +1,15 @@
 //! Two threads that visit one core in turn: each finds the history no shorter than it left it.
 ghost use Rattle.std.specs.Prelude.{◌≡◌, ◌<◌, ◌≤◌, ℕ, true, false, length, IfOk, IfSome};
 ghost use Rattle.std.specs.Thread.{IsSync};
+ghost use Rattle.core_bench.specs.ScriptCore.{IsGoodScriptCore};
 ghost use Rattle.heap_lock.specs.Parts.{HasAllParts};
 ghost use Rattle.stm_core.specs.CoreHeld.{IsGoodCore};
 ghost use Rattle.stm_workers.specs.CoreJob.{core_job};
 ghost use Rattle.stm_workers.specs.Growth.{Grows};
-ghost use Rattle.worker_tests.specs.ScriptCore.{IsGoodScriptCore, segments_of};
+ghost use Rattle.worker_tests.specs.Segments.{segments_of};
 ghost use Rattle.worker_tests.specs.Turns.{turns_of};
 
+use core_bench::{MemCore, sink, source};
 use heap_lock::{HeapLock, Job, Seat};
 use lock_run::{Act, Acts, Client, Script};
 use seg_store::{PlainStore, SegStore};
@@ -17,10 +19,8 @@ use std::sync::Wait;
 use std::test;
 use std::thread::{Threads, join};
 use stm_core::{Core, RunState};
-use stm_io::{MemSink, MemSource, Sink, Source};
+use stm_io::{Sink, Source};
 use stm_workers::{Held, visit};
-
-pub(crate) type MemCore<'p> = Core<'p, Script, PlainStore, MemSource, MemSink, MemSink>;
 
 /// What threads do with a value whose turns only grow.
 trait Watch<T: Job> {
@@ -190,22 +190,13 @@ fn script(rt: &impl Abort, alloc: Global) -> Result<Script, test::Fail> {
     Ok(Script::new(2, lists))
 }
 
-/// A source with nothing in it, an output and an error output.
-pub(crate) fn empty_devices(alloc: Global) -> (MemSource, MemSink, MemSink) {
-    (
-        MemSource::new(alloc, Vec::new(alloc), Vec::new(alloc)),
-        MemSink::new(alloc, Vec::new(alloc)),
-        MemSink::new(alloc, Vec::new(alloc)),
-    )
-}
-
 /// A core of two segments, whose transactions have at most three steps.
 fn core<'p>(alloc: Global, client: &'p Script) -> Result<MemCore<'p>, test::Fail>
     ensures good { IfOk result IsGoodScriptCore }
     ensures segments { IfOk result (λ x. segments_of x ≡ 2) }
 {
     let store = PlainStore::new(alloc, 2)?;
-    let (input, out, err) = empty_devices(alloc);
+    let (input, out, err) = (source(alloc), sink(alloc), sink(alloc));
     match Core::new(alloc, client, store, 3, 10_000, input, out, err) {
         Ok(core) => Ok(core),
         Err(_) => Err("no memory".into()),
