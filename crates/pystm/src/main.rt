@@ -11,7 +11,8 @@ mod source;
 mod steady;
 mod words;
 
-ghost use Rattle.std.specs.Prelude.{◌≡◌};
+ghost use Rattle.std.specs.Prelude.{◌≡◌, ◌≢◌};
+ghost use Rattle.pystm.specs.Process.{IsAnswered};
 
 use crate::loader::FileLoader;
 use crate::sink::{StderrSink, StdoutSink};
@@ -24,18 +25,21 @@ use stm_top::run_words;
 /// The status where the words find no memory.
 const OUT_OF_MEMORY: u8 = 11;
 
-/// Runs what the process's words say over the real outside, and ends with its status.
-fn main(rt: HostRuntime) -> ExitCode {
+/// Runs what the process's words say over the real outside: the status of the process, which is that of the top call's
+/// answer, or 11 where the words find no memory.
+fn status(rt: &HostRuntime) -> u8
+    ensures { result ≢ 11 → IsAnswered result }
+{
     let alloc = rt.alloc();
-    let Ok(words) = read_words(&rt, alloc) else {
-        return ExitCode::from(stop_for_memory(&rt));
+    let Ok(words) = read_words(rt, alloc) else {
+        return stop_for_memory(rt);
     };
-    let loader = FileLoader::new(&rt, alloc);
+    let loader = FileLoader::new(rt, alloc);
     let input = StdinSource::new(alloc, rt.stdin());
     let out = StdoutSink::new(rt.stdout());
     let err = StderrSink::new(rt.stderr());
     let report = run_words(
-        &rt,
+        rt,
         alloc,
         words.as_slice(),
         loader,
@@ -44,7 +48,12 @@ fn main(rt: HostRuntime) -> ExitCode {
         err,
         &OpenGate,
     );
-    ExitCode::from(report.status.number())
+    report.status.number()
+}
+
+/// Ends the process with its status.
+fn main(rt: HostRuntime) -> ExitCode {
+    ExitCode::from(status(&rt))
 }
 
 /// Says that there was no memory for the words. A failure of that write changes nothing.
