@@ -1,5 +1,5 @@
 //! Parameters and the keywords of a call.
-ghost use Rattle.std.specs.Prelude.{◌≡◌, ◌++◌, map, OnOk, IfOk};
+ghost use Rattle.std.specs.Prelude.{◌≡◌, ◌++◌, map, OnOk, OnErr, IfOk};
 ghost use Rattle.py_base.specs.NameLists.{has};
 ghost use Rattle.py_frames.specs.Binding as binding;
 ghost use Rattle.py_frames.specs.State as state;
@@ -109,13 +109,18 @@ pub fn push_filled(
     Ok(())
 }
 
-/// So many slots without a value.
+/// So many slots without a value. At want of memory the list stays as it is.
 pub fn push_unset(out: &mut Values, n: usize) -> Result<(), NoMemory>
-    ensures { OnOk result (out.new ≡ out.old ++ binding.unset_slots n) }
+    ensures ok { OnOk result (out.new ≡ out.old ++ binding.unset_slots n) }
+    ensures err { OnErr result (out.new ≡ out.old) }
 {
+    let start = out.len();
     let mut left = n;
     'slots: while left > 0 {
-        out.push(Value::Unset)?;
+        if let Err(want) = out.push(Value::Unset) {
+            out.truncate(start);
+            return Err(want);
+        }
         left -= 1;
     }
     Ok(())
