@@ -99,15 +99,16 @@ gone_more (Some xs) bytes now next k t e =
     e ∙ ap (λ z. shrunk z k) t.1 ∙ ap Some (sym (drop-append-add bytes t.0 k)) ∙
     ap (λ z. Some (drop (length bytes + k) z)) (sym t.2)
 
-rose_later : (a b c : ℕ) → a ≤ b → Rose b c → Rose a c
-rose_later a b c p r = omega (arith, p, r)
+-- it rose from an earlier number too, which isn't higher
+pub rose_earlier : (a b c : ℕ) → a ≤ b → Rose b c → Rose a c
+rose_earlier a b c p r = omega (arith, p, r)
 
 failed_there : (bytes : List ℕ) (a s u : SourceState) → TakenSoFar bytes a s → TakeStops Failed s u → TakingFailed a u
 failed_there bytes a s u t h = record {
   gone = length bytes + h.0.0;
   told = gone_more a.told bytes s.told u.told h.0.0 t.taken h.0.1;
   ends = h.1 ∙ t.ends;
-  rose = rose_later a.faults s.faults u.faults t.faults h.2;
+  rose = rose_earlier a.faults s.faults u.faults t.faults h.2;
 }
 
 -- ---- want of memory

@@ -21,6 +21,7 @@ use Rattle.stm_top.specs.Script.{Origin, Taken, AskedAtMost}
 use Rattle.stm_top.specs.Serial.{Serial}
 use Rattle.stm_top.specs.TopCall.{Devices, Told, origin, limits_of, Faults, faults_of, NoneFell, RunEnded, NothingRan, TextPut, Ran, CausedBy}
 use Rattle.stm_top.specs.inner.Ending.{NoScript, RunEnds, ThreadsEnded, NoProgram, TextEnded}
+use Rattle.stm_top.proofs.Taking.{rose_earlier}
 
 -- no text is put where there is none
 pub nothing_put : (text : List ℕ) (s : SinkState) → text ≡ [] → TextPut text s s
@@ -88,9 +89,6 @@ taken_short Source text x y w h = h.0.short
 taken_short (File name) text x y w h = h.1
 taken_short (Demo n) text x y w h = subst (λ z. length z ≤ 4194304) (sym h.0) (demo_short n w)
 
-rose_after : (a b c : ℕ) → a ≤ b → Rose b c → Rose a c
-rose_after a b c l r = omega (arith, l, r)
-
 -- the source counted no fewer failures after the script was taken than before
 earlier : (answer : Answer) {input : SourceState} {out err : Option (List ℕ)} {history : List Turn}
     {conflicts : List Conflict} {input1 : SourceState} {out1 err1 : Option (List ℕ)} {S : Type 0} {p : Prog S} {n : ℕ}
@@ -99,7 +97,7 @@ earlier : (answer : Answer) {input : SourceState} {out err : Option (List ℕ)} 
     → a.input ≤ a1.input → a1.out ≡ a.out → a1.err ≡ a.err → RunEnded l w answer a1 b r → RunEnded l w answer a b r
 earlier Done l w a a1 b r i o e h = h
 earlier Failed l w a a1 b r i o e h = h
-earlier InputFailed l w a a1 b r i o e h = (h.0, rose_after a.input a1.input b.input i h.1)
+earlier InputFailed l w a a1 b r i o e h = (h.0, rose_earlier a.input a1.input b.input i h.1)
 earlier OutputFailed l w a a1 b r i o e h = (h.0, subst (λ z. Rose z b.out) o h.1)
 earlier ErrorOutputFailed l w a a1 b r i o e h = (h.0, subst (λ z. Rose z b.err) e h.1)
 earlier (HeapFull reserved need limit) l w a a1 b r i o e h = h
