@@ -4,6 +4,6 @@
 mod calls;
 
 pub use calls::{
-    MemReport, NO_FAILURE, Plan, SCRIPTS, lines_of, report, report_with, source_word, told, turns,
-    words_in,
+    MemReport, NO_FAILURE, Plan, SCRIPTS, lines_of, report, report_with, source_word, told,
+    told_with_turns, turns, words_in,
 };
