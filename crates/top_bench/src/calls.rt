@@ -1,4 +1,9 @@
 //! Calls of the top call over devices in memory, and what is told of them.
+ghost use Rattle.std.specs.Prelude.{◌≡◌, ◌++◌, IfOk, OnOk, length, map, string_bytes};
+ghost use Rattle.stm_top.specs.Answer.{number_of};
+ghost use Rattle.top_bench.specs.Told.{line_of_bytes, told_text, meant_byte, turn_text, steps_text, turns_text};
+
+use lock_run::{History, Turn};
 use py_data::NoMemory;
 use std::alloc::Global;
 use std::sync::Wait;
@@ -66,9 +71,10 @@ pub fn report<Rt: Threads + Wait + Sync>(
     report_with(rt, alloc, words, script, b"print 1\n", plan)
 }
 
-/// Bytes as a text in which `;` stands for a newline.
-fn in_a_line(alloc: Global, bytes: &[u8]) -> Result<String, NoMemory> {
-    let mut text = String::new(alloc);
+/// Appends bytes as a text in which `;` stands for a newline.
+fn push_line(text: &mut String, bytes: &[u8]) -> Result<(), NoMemory>
+    ensures { OnOk result (string_bytes text.new ≡ string_bytes text.old ++ line_of_bytes bytes.now) }
+{
     for byte in bytes {
         text.push(if *byte == b'\n' {
             ';'
@@ -76,14 +82,19 @@ fn in_a_line(alloc: Global, bytes: &[u8]) -> Result<String, NoMemory> {
             char::from(*byte)
         })?;
     }
-    Ok(text)
+    Ok(())
 }
 
 /// The status, the output and the error output.
-pub fn told(alloc: Global, report: &MemReport) -> Result<String, NoMemory> {
-    let out = in_a_line(alloc, report.out.written())?;
-    let err = in_a_line(alloc, report.err.written())?;
-    format!(in alloc; "{}~{out}~{err}", report.status.number())
+pub fn told(alloc: Global, report: &MemReport) -> Result<String, NoMemory>
+    ensures { IfOk result (λ text. string_bytes text ≡
+        told_text (number_of report.now.status) report.now.out.written report.now.err.written) }
+{
+    let mut text = format!(in alloc; "{}~", report.status.number())?;
+    push_line(&mut text, report.out.written())?;
+    text.push('~')?;
+    push_line(&mut text, report.err.written())?;
+    Ok(text)
 }
 
 /// Words that are separated by spaces.
@@ -101,7 +112,9 @@ pub fn source_word(alloc: Global) -> Result<Vec<String>, NoMemory> {
 }
 
 /// The bytes of a text in which `;` stands for a newline.
-pub fn lines_of(alloc: Global, text: &str) -> Result<Vec<u8>, NoMemory> {
+pub fn lines_of(alloc: Global, text: &str) -> Result<Vec<u8>, NoMemory>
+    ensures { IfOk result (λ bytes. bytes.items ≡ map meant_byte text.now) }
+{
     let mut bytes = Vec::new(alloc);
     for byte in text.as_bytes() {
         bytes.push(if *byte == b';' { b'\n' } else { *byte })?;
@@ -109,7 +122,37 @@ pub fn lines_of(alloc: Global, text: &str) -> Result<Vec<u8>, NoMemory> {
     Ok(bytes)
 }
 
-/// The steps of each turn, with spaces between them, and the status with the outputs.
+/// Appends the steps of the turn behind a space.
+fn push_steps(text: &mut String, turn: &Turn) -> Result<(), NoMemory>
+    ensures { OnOk result (string_bytes text.new ≡ string_bytes text.old ++ turn_text turn.now) }
+{
+    write!(text, " {}", turn.steps)
+}
+
+/// Appends the steps of each turn.
+fn push_history(text: &mut String, history: &History) -> Result<(), NoMemory>
+    ensures { OnOk result (string_bytes text.new ≡ string_bytes text.old ++ steps_text history.now.entries) }
+{
+    for i in 0..history.len() {
+        let turn = history.get(i).unwrap();
+        push_steps(text, turn)?;
+    }
+    Ok(())
+}
+
+/// What `told` says, the number of conflicts, and the steps of each turn.
+fn told_with_turns(alloc: Global, report: &MemReport) -> Result<String, NoMemory>
+    ensures { IfOk result (λ text. string_bytes text ≡ turns_text
+        (told_text (number_of report.now.status) report.now.out.written report.now.err.written)
+        (length report.now.conflicts.entries) report.now.history.entries) }
+{
+    let mut text = told(alloc, report)?;
+    write!(text, "~{}~", report.conflicts.len())?;
+    push_history(&mut text, &report.history)?;
+    Ok(text)
+}
+
+/// What is told of a call, with its turns.
 pub fn turns<Rt: Threads + Wait + Sync>(
     rt: &Rt,
     alloc: Global,
@@ -120,14 +163,7 @@ pub fn turns<Rt: Threads + Wait + Sync>(
     let words = words_in(alloc, words)?;
     let bytes = lines_of(alloc, script)?;
     let left = report(rt, alloc, words.as_slice(), bytes.as_slice(), plan)?;
-    let mut steps = String::new(alloc);
-    for i in 0..left.history.len() {
-        if let Some(turn) = left.history.get(i) {
-            steps.push_str(format!(in alloc; " {}", turn.steps)?.as_str())?;
-        }
-    }
-    let told = told(alloc, &left)?;
-    format!(in alloc; "{told}~{}~{steps}", left.conflicts.len())
+    told_with_turns(alloc, &left)
 }
 
 /// Scripts, each with its answer behind `|`: the status, the output and the error output.
