@@ -18,26 +18,32 @@ use crate::loader::FileLoader;
 use crate::sink::{StderrSink, StdoutSink};
 use crate::source::StdinSource;
 use crate::words::read_words;
+use std::alloc::Global;
 use std::process::ExitCode;
+use std::rt::{Env, Files};
+use std::sync::Wait;
+use std::thread::Threads;
 use stm_io::{OpenGate, Sink};
 use stm_top::run_words;
 
 /// The status where the words find no memory.
 const OUT_OF_MEMORY: u8 = 11;
 
-/// Runs what the process's words say over the real outside: the status of the process, which is that of the top call's
+/// Runs what the process's words say over these devices: the status of the process, which is that of the top call's
 /// answer, or 11 where the words find no memory.
-fn status(rt: &HostRuntime) -> u8
+fn status<Rt: Env + Files + Threads + Wait + Sync>(
+    rt: &Rt,
+    alloc: Global,
+    input: StdinSource,
+    out: StdoutSink,
+    err: StderrSink,
+) -> u8
     ensures { result ≢ 11 → IsAnswered result }
 {
-    let alloc = rt.alloc();
     let Ok(words) = read_words(rt, alloc) else {
-        return stop_for_memory(rt);
+        return stop_for_memory(err);
     };
     let loader = FileLoader::new(rt, alloc);
-    let input = StdinSource::new(alloc, rt.stdin());
-    let out = StdoutSink::new(rt.stdout());
-    let err = StderrSink::new(rt.stderr());
     let report = run_words(
         rt,
         alloc,
@@ -51,18 +57,21 @@ fn status(rt: &HostRuntime) -> u8
     report.status.number()
 }
 
-/// Ends the process with its status.
-fn main(rt: HostRuntime) -> ExitCode {
-    ExitCode::from(status(&rt))
-}
-
 /// Says that there was no memory for the words. A failure of that write changes nothing.
-fn stop_for_memory(rt: &HostRuntime) -> u8
+fn stop_for_memory(mut err: StderrSink) -> u8
     ensures { result ≡ 11 }
 {
-    let mut err = StderrSink::new(rt.stderr());
     let _ = err.put(b"pystm: out of memory\n");
     OUT_OF_MEMORY
+}
+
+/// Runs what the process's words say over the real outside, and ends with its status.
+fn main(rt: HostRuntime) -> ExitCode {
+    let alloc = rt.alloc();
+    let input = StdinSource::new(alloc, rt.stdin());
+    let out = StdoutSink::new(rt.stdout());
+    let err = StderrSink::new(rt.stderr());
+    ExitCode::from(status(&rt, alloc, input, out, err))
 }
 
 #[cfg(test)]
