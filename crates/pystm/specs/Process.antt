@@ -6,10 +6,8 @@ use Rattle.stm_top.specs.declared.status.Status.{Status}
 use Rattle.stm_top.specs.Answer.{number_of}
 use Rattle.stm_top.specs.TopCall.{Devices, Told, Answered}
 
--- it is the number of the status that a call of the top call answers, for its cause, to some words over some devices
-pub record IsAnswered (n : ℕ) : Type 0 where
-  pub words : List (List ℕ)
-  pub before : Devices
+-- it is the number of the status that the top call answers, for its cause, to these words over these devices
+pub record IsAnswered (words : List (List ℕ)) (before : Devices) (n : ℕ) : Type 0 where
   pub status : Status
   pub text : List ℕ
   pub told : Told

@@ -11,7 +11,8 @@ mod source;
 mod steady;
 mod words;
 
-ghost use Rattle.std.specs.Prelude.{◌≡◌, ◌≢◌};
+ghost use Rattle.std.specs.Prelude.{◌≡◌, ◌≢◌, ℕ, List};
+ghost use Rattle.stm_top.specs.TopCall.{bytes_of, devices_of};
 ghost use Rattle.pystm.specs.Process.{IsAnswered};
 
 use crate::loader::FileLoader;
@@ -20,45 +21,50 @@ use crate::source::StdinSource;
 use crate::words::read_words;
 use std::alloc::Global;
 use std::process::ExitCode;
-use std::rt::{Env, Files};
+use std::rt::Env;
 use std::sync::Wait;
 use std::thread::Threads;
-use stm_io::{OpenGate, Sink};
+use stm_io::{Loader, OpenGate, Sink, Source};
 use stm_top::run_words;
 
 /// The status where the words find no memory.
 const OUT_OF_MEMORY: u8 = 11;
 
-/// Runs what the process's words say over these devices: the status of the process, which is that of the top call's
-/// answer, or 11 where the words find no memory.
-fn status<Rt: Env + Files + Threads + Wait + Sync>(
-    rt: &Rt,
-    alloc: Global,
-    input: StdinSource,
-    out: StdoutSink,
-    err: StderrSink,
-) -> u8
-    ensures { result ≢ 11 → IsAnswered result }
+/// Runs what these words say over these devices: the number of the top call's status.
+fn run<
+    Rt: Threads + Wait + Sync,
+    L: Loader + Drop,
+    I: Source + Send + Drop,
+    O: Sink + Send + Drop,
+    E: Sink + Send + Drop,
+>(rt: &Rt, alloc: Global, words: &[String], loader: L, input: I, out: O, err: E) -> u8
+    ensures { IsAnswered (bytes_of words.now)
+        (devices_of L.state I.state O.state E.state loader input out err) result }
 {
-    let Ok(words) = read_words(rt, alloc) else {
-        return stop_for_memory(err);
-    };
-    let loader = FileLoader::new(rt, alloc);
-    let report = run_words(
-        rt,
-        alloc,
-        words.as_slice(),
-        loader,
-        input,
-        out,
-        err,
-        &OpenGate,
-    );
+    let report = run_words(rt, alloc, words, loader, input, out, err, &OpenGate);
     report.status.number()
 }
 
+/// Runs what the process's words say over these devices: the status of the process, which is that of the top call's
+/// answer, or 11 where the words find no memory.
+fn status<
+    Rt: Env + Threads + Wait + Sync,
+    L: Loader + Drop,
+    I: Source + Send + Drop,
+    O: Sink + Send + Drop,
+    E: Sink + Send + Drop,
+>(rt: &Rt, alloc: Global, loader: L, input: I, out: O, err: E) -> u8
+    ensures { result ≢ 11 → (words : List (List ℕ))
+        × IsAnswered words (devices_of L.state I.state O.state E.state loader input out err) result }
+{
+    match read_words(rt, alloc) {
+        Ok(words) => run(rt, alloc, words.as_slice(), loader, input, out, err),
+        Err(_) => stop_for_memory(err),
+    }
+}
+
 /// Says that there was no memory for the words. A failure of that write changes nothing.
-fn stop_for_memory(mut err: StderrSink) -> u8
+fn stop_for_memory<E: Sink + Drop>(mut err: E) -> u8
     ensures { result ≡ 11 }
 {
     let _ = err.put(b"pystm: out of memory\n");
@@ -71,14 +77,14 @@ fn main(rt: HostRuntime) -> ExitCode {
     let input = StdinSource::new(alloc, rt.stdin());
     let out = StdoutSink::new(rt.stdout());
     let err = StderrSink::new(rt.stderr());
-    ExitCode::from(status(&rt, alloc, input, out, err))
+    let loader = FileLoader::new(&rt, alloc);
+    ExitCode::from(status(&rt, alloc, loader, input, out, err))
 }
 
 #[cfg(test)]
 mod tests {
     use super::*;
     use std::test::Fail;
-    use stm_io::{Loader, Source};
 
     /// Uses each device through its trait alone, and asks that it can cross threads.
     fn used<L: Loader + Send + Drop, I: Source + Send + Drop, O: Sink + Send + Drop>(
