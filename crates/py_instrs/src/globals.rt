@@ -77,7 +77,7 @@ fn named_builtin<S, V: View<S>>(
 
 /// Pushes what the cell of a name holds, or else the builtin of that name.
 #[tactic(auto, using(py_data::proofs::Rows::row_steps), unfolding(py_frames::specs::GlobalRows::bound_row))]
-fn bound_row<S, V: View<S>>(
+pub fn bound_row<S, V: View<S>>(
     alloc: Global,
     v: &mut V,
     roots: Addr,

@@ -121,7 +121,7 @@ followed s s1 n i next false e g h = h
 
 -- ---- operands
 
-none_of : (f : Frame) → operands 0 f ≡ []
+pub none_of : (f : Frame) → operands 0 f ≡ []
 none_of f = drop_all (length f.stack - 0) f.stack (omega arith)
 
 at_most : (f : Frame) → length (operands 1 f) ≤ 1

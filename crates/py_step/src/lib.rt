@@ -10,6 +10,7 @@ mod operands;
 mod place;
 mod prepared;
 mod step;
+mod straight;
 
 pub use blocked::would_wait;
 pub use client::PyClient;

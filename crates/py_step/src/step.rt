@@ -15,6 +15,7 @@ use crate::guard::guarded_row;
 use crate::operands::pops;
 use crate::place::{instr_at, place_of, site};
 use crate::prepared::Prepared;
+use crate::straight::go;
 use lock_run::Outcome;
 use py_code::{Instr, Program};
 use py_data::{Stop, View};
@@ -48,7 +49,7 @@ fn next_of<V: View<ThreadState>>(
 }
 
 /// The step of a thread that has a frame: does the instruction at hand by its row, and what it leads to.
-fn go_by_row<V: View<ThreadState>>(
+pub(crate) fn go_by_row<V: View<ThreadState>>(
     alloc: Global,
     v: &mut V,
     p: &Prepared,
@@ -143,7 +144,7 @@ pub fn step_row<V: View<ThreadState>>(
         return die(alloc, v, s, d);
     }
     match instr_at(p.program(), s) {
-        Some(i) => go_by_row(alloc, v, p, s, i),
+        Some(i) => go(alloc, v, p, s, i),
         None => Ok(end(s)),
     }
 }
