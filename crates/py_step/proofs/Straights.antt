@@ -1,7 +1,11 @@
 -- Steps whose instruction does a part of its row, and what follows then.
-use Rattle.std.proofs.Common.{◌≡◌, ℕ, ◌<◌, Bool, false, cond, ◌||◌, List, [], ◌∷◌, length, drop, Some, Result, Ok, Err, refl, sym, ap, subst, ◌∙◌}
+use Rattle.std.proofs.Common.{arith, ◌≡◌, ℕ, ◌+◌, ◌-◌, ◌<◌, Bool, false, cond, ◌||◌, List, [], ◌∷◌, ◌++◌, append_assoc, length, take, drop, Option, Some, None, Result, Ok, Err, refl, sym, ap, subst, ◌∙◌}
+use Rattle.std.proofs.lemmas.List.{take-append-drop, take_all}
 use Rattle.std.specs.Result.{IsErrAnd}
 use Rattle.std.specs.Prelude.{IfOk, IfErr, OnErr}
+use Rattle.py_base.specs.declared.kind.Kind.{Kind}
+use Rattle.py_base.specs.declared.kind.Kind.TheVariants.{Str, Tuple, List as ListKind, Dict, Cell, Function, Class, Instance, Method, Iter, Range, Lock, Thread as ThreadKind}
+use Rattle.py_data.specs.declared.value.Addr.{Addr}
 use Rattle.py_data.specs.declared.stop.Stop.{Stop}
 use Rattle.py_data.specs.declared.stop.Stop.TheVariants.{OutOfMemory}
 use Rattle.py_data.specs.declared.record.Fault.{Fault}
@@ -11,22 +15,24 @@ use Rattle.py_data.specs.declared.value.Value.{Value}
 use Rattle.py_data.specs.declared.value.Value.TheVariants.{Unset, None as NoneValue, Bool as Truth, Int, Ref, Builtin}
 use Rattle.py_data.specs.Fault.{operand_fault}
 use Rattle.py_data.specs.Heap.{Heap}
-use Rattle.py_data.specs.Row.{Call, Reply, Row, Ret, Do, bind}
+use Rattle.py_data.specs.Row.{Call, Reply, Row, Ret, Do, Read, bind}
 use Rattle.py_data.specs.Sense.{Sense, Lawful, Safe, Run, Stopped, Meets}
 use Rattle.py_data.proofs.Rows.{run_ret, run_bind, own_memory, stop_first, stop_then}
 use Rattle.py_data.proofs.Steps.{as_err, safe_first, safe_then}
 use Rattle.py_code.specs.declared.instr.Instr.{Instr}
-use Rattle.py_code.specs.declared.instr.Instr.TheVariants.{LoadAttr, LoadGlobal, LoadItem, StoreAttr, StoreItem}
+use Rattle.py_code.specs.declared.instr.Instr.TheVariants.{LoadAttr, LoadGlobal, LoadItem, Next as NextInstr, StoreAttr, StoreItem}
 use Rattle.py_code.specs.declared.program.Program.{Program}
-use Rattle.py_data.specs.Looking.{look_row}
+use Rattle.py_data.specs.Looking.{kind_row, look_row}
 use Rattle.lock_run.specs.declared.client.Outcome.{Outcome}
+use Rattle.lock_run.specs.declared.client.Outcome.TheVariants.{Done}
 use Rattle.py_frames.specs.declared.next.Next.{Next}
-use Rattle.py_frames.specs.declared.next.Next.TheVariants.{Goes}
+use Rattle.py_frames.specs.declared.next.Next.TheVariants.{Goes, Jumps}
 use Rattle.py_frames.specs.declared.state.Frame.{Frame}
-use Rattle.py_frames.specs.State.{State, operands, pops, root_name, settled}
+use Rattle.py_frames.specs.State.{State, advanced, operands, pops, root_name, settled, with_frames}
 use Rattle.py_frames.specs.Steps.{guarded_row, has_unset, instr_row, is_unset, site_of, step_at, wanted}
 use Rattle.py_states.specs.Innermost.{innermost, settled_in, Settles}
 use Rattle.py_frames.specs.GlobalRows.{bound_row, builtin_named, load_cell_row, load_global_row}
+use Rattle.py_frames.specs.BuildRows.{next_by, next_instr, next_of, next_or_end}
 use Rattle.py_frames.specs.AttrInstrs.{load_attr_row, loaded_attr, store_attr_row, stored_attr}
 use Rattle.py_frames.specs.ClassCalls.{Site}
 use Rattle.py_frames.specs.ItemRows.{item_of, load_item_row, set_item, store_item_row}
@@ -35,7 +41,7 @@ use Rattle.py_states.proofs.Running.{there_is, settled_there}
 use Rattle.py_step.proofs.Moving.{settled_is, settles_of}
 use Rattle.py_step.specs.inner.Moves.{Moves}
 use Rattle.py_step.proofs.Directs.{none_of}
-use Rattle.py_step.specs.inner.Straight.{ending, ended, global_value, named_attr, set_named_attr}
+use Rattle.py_step.specs.inner.Straight.{came, ending, ended, global_value, item_by, item_of as item_at, named_attr, set_named_attr}
 
 -- ---- one part after another
 
@@ -144,6 +150,55 @@ module _ {X : Type 0} (u : Sense State X) (p : Program) (s : State) (n a : ℕ) 
     unfolding done
     done_raised x v w t r e m = subst (λ g. Moves u (ended p s n (done a g)) v s w t r) (sym e) m
 
+-- ---- an iterator that goes on
+
+-- its next item is pushed on it
+beside : (f : Frame) (it x : Value) (pc : ℕ) → operands 1 f ≡ it ∷ [] →
+    advanced 0 (x ∷ []) pc f ≡ advanced 1 (it ∷ x ∷ []) pc f
+beside f it x pc e =
+    let under : List Value = take (length f.stack - 1) f.stack in
+    let whole : take (length f.stack - 0) f.stack ≡ under ++ it ∷ [] =
+    take_all (length f.stack - 0) f.stack (omega arith)
+    ∙ (sym (take-append-drop (length f.stack - 1) f.stack) ∙ ap (λ ys. under ++ ys) e) in
+    λ i. record f { pc = pc; stack = (ap (λ xs. xs ++ x ∷ []) whole ∙ append_assoc under (it ∷ []) (x ∷ [])) i }
+
+beside_in : (p : Program) (s : State) (it x : Value) (fs : List Frame) → operands 1 (innermost fs) ≡ it ∷ [] →
+    settled_in p s 0 (Goes (x ∷ [])) fs ≡ settled_in p s 1 (Goes (it ∷ x ∷ [])) fs
+unfolding settled
+beside_in p s it x [] e = refl
+beside_in p s it x (f ∷ fs) e = λ i. (Done, with_frames s (beside f it x (f.pc + 1) e i ∷ fs))
+
+module _ {X : Type 0} (u : Sense State X) (p : Program) (s : State) (a t : ℕ) (it : Value) where
+  abbrev by_next : Got (Option Value) → Row State (Outcome × State)
+  by_next got = ended p s 1 (next_or_end a t it got)
+
+  pub next_safe : (got : Got (Option Value)) (x : Fault) (h : Heap) → got ≡ Raise x →
+      Safe u.partial (next_or_end {S = State} a t it got) h → Safe u.partial (raise_row {S = State} a x) h
+  unfolding next_or_end
+  next_safe got x h e z = subst (λ g. Safe u.partial (next_or_end {S = State} a t it g) h) e z
+
+  -- the frame's answer is that of the row
+  came_in : (o : Option Value) (v : X) (s1 : State) (r : Result Outcome Stop) → operands 1 (innermost s.frames) ≡ it ∷ [] →
+      0 < length s.frames → IfOk r (λ y. (p : Program) → Settles (came p s t o) y s1) →
+      IfErr r (λ e. e ≡ OutOfMemory) → OnErr r (s1 ≡ s) → Moves u (by_next (Is o)) v s v s1 r
+  unfolding next_or_end bind
+  came_in (Some x) v s1 (Ok y) q l h c k = led u p s 1 (Goes (it ∷ x ∷ [])) v s1 (Ok y) l
+      (λ p. h p ∙ beside_in p s it x s.frames q) c k
+  came_in (Some x) v s1 (Err y) q l h c k = led u p s 1 (Goes (it ∷ x ∷ [])) v s1 (Err y) l h c k
+  came_in None v s1 r q l h c k = led u p s 1 (Jumps t []) v s1 r l h c k
+
+  pub next_came : (got : Got (Option Value)) (o : Option Value) (v : X) (s1 : State) (r : Result Outcome Stop) →
+      got ≡ Is o → operands 1 (innermost s.frames) ≡ it ∷ [] → 0 < length s.frames →
+      IfOk r (λ y. (p : Program) → Settles (came p s t o) y s1) → IfErr r (λ e. e ≡ OutOfMemory) → OnErr r (s1 ≡ s) →
+      Moves u (by_next got) v s v s1 r
+  next_came got o v s1 r e q l h c k = subst (λ g. Moves u (by_next g) v s v s1 r) (sym e)
+      (came_in o v s1 r q l h c k)
+
+  pub next_raised : (got : Got (Option Value)) (x : Fault) (v w : X) (s1 : State) (r : Result Outcome Stop) →
+      got ≡ Raise x → Moves u (ended p s 1 (raise_row a x)) v s w s1 r → Moves u (by_next got) v s w s1 r
+  unfolding next_or_end
+  next_raised got x v w s1 r e m = subst (λ g. Moves u (by_next g) v s w s1 r) (sym e) m
+
 -- ---- a global name, of the program at hand
 abbrev bound_by : {S : Type 0} → Program → ℕ → List ℕ → Value → Row S Next
 bound_by q a name x = bound_row a name (builtin_named q name) x
@@ -237,3 +292,26 @@ module _ (p : Program) (s : State) where
   store_item_is x o i q n m k = straight 3 StoreItem (x ∷ o ∷ i ∷ []) (set_item o i x) (done (place_of s.roots)) refl q
       (set_three x o i n m k) refl
 
+  -- the row of NEXT, kind by kind
+  next_by_is : (t : ℕ) (a : Addr) (k : Kind) →
+      next_by {S = State} (place_of s.roots) t a.0 k ≡ bind (item_by a.0 k) (next_or_end (place_of s.roots) t (Ref a))
+  unfolding next_by next_of next_or_end bind
+  next_by_is t a Str = refl
+  next_by_is t a Tuple = refl
+  next_by_is t a ListKind = refl
+  next_by_is t a Dict = refl
+  next_by_is t a Cell = refl
+  next_by_is t a Function = refl
+  next_by_is t a Class = refl
+  next_by_is t a Instance = refl
+  next_by_is t a Method = refl
+  next_by_is t a Iter = refl
+  next_by_is t a Range = refl
+  next_by_is t a Lock = refl
+  next_by_is t a ThreadKind = refl
+
+  pub go_on_is : (t : ℕ) (a : Addr) → operands 1 top ≡ Ref a ∷ [] →
+      step (NextInstr t) ≡ bind (item_at a.0) (λ g. ended p s 1 (next_or_end (place_of s.roots) t (Ref a) g))
+  unfolding instr_row next_instr kind_row bind
+  go_on_is t a q = straight 1 (NextInstr t) (Ref a ∷ []) (item_at a.0) (next_or_end (place_of s.roots) t (Ref a)) refl q refl
+      (λ i. Do (Read a.0) (λ r. next_by_is t a r.kind i))

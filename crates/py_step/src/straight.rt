@@ -2,11 +2,12 @@
 //! does. They do their row, as `instrs` would, without a large answer on the way.
 ghost use Rattle.std.specs.Prelude.{◌≡◌, ◌≢◌, ◌<◌, [], ◌∷◌, Some, drop, length, IfOk, IfErr, IfSome, OnErr};
 ghost use Rattle.py_data.specs.declared.stop.Stop.TheVariants.{OutOfMemory};
-ghost use Rattle.py_data.specs.declared.value.Value.TheVariants.{Unset};
+ghost use Rattle.py_data.specs.declared.value.Value.TheVariants.{Ref, Unset};
 ghost use Rattle.py_data.specs.Sense.{Meets, Safe, IsLive};
-ghost use Rattle.py_code.specs.declared.instr.Instr.TheVariants.{LoadAttr, LoadGlobal, LoadItem, StoreAttr, StoreItem};
+ghost use Rattle.py_code.specs.declared.instr.Instr.TheVariants.{LoadAttr, LoadGlobal, LoadItem, Next, StoreAttr, StoreItem};
 ghost use Rattle.py_code.specs.declared.program.Program.{Program as Prog};
-ghost use Rattle.py_frames.specs.declared.next.Next.TheVariants.{Goes};
+ghost use Rattle.py_frames.specs.declared.next.Next.TheVariants.{Goes, Jumps};
+ghost use Rattle.py_frames.specs.BuildRows as builds;
 ghost use Rattle.py_frames.specs.GlobalRows as globals;
 ghost use Rattle.py_frames.specs.Raising as raising;
 ghost use Rattle.py_frames.specs.State as state;
@@ -14,17 +15,18 @@ ghost use Rattle.py_frames.specs.Steps as steps;
 ghost use Rattle.py_states.specs.Innermost.{innermost, settled_in, Settles};
 ghost use Rattle.py_step.specs.inner.Moves.{Moves};
 ghost use Rattle.py_step.specs.inner.Operators.{HasOperator};
-ghost use Rattle.py_step.specs.inner.Straight.{ended, global_value, named_attr, set_named_attr};
+ghost use Rattle.py_step.specs.inner.Straight.{came, ended, global_value, item_by, item_of, named_attr, set_named_attr};
 
 use crate::place::place_of;
 use crate::prepared::Prepared;
 use crate::step::go_by_row;
 use lock_run::Outcome;
 use obj_class::{attr, set_attr};
+use obj_seq::next;
 use py_code::Instr;
-use py_data::{Addr, Fault, Got, Stop, Value, View, look};
+use py_data::{Addr, Fault, Got, Kind, Stop, Value, View, kind, look};
 use py_instrs::{bound_row, item_of, set_item};
-use py_parts::{place_in, raise_row, root_name};
+use py_parts::{operand_fault, place_in, raise_row, root_name};
 use py_states::ThreadState;
 use std::alloc::Global;
 
@@ -201,6 +203,86 @@ fn set_named_attr<S, V: View<S>>(
     set_attr(alloc, v, o, place_in(name), x)
 }
 
+/// The next item of a record of a kind, if it is an iterator.
+#[tactic(auto, using(py_data::proofs::Rows::row_steps))]
+fn item_by<S, V: View<S>>(
+    alloc: Global,
+    v: &mut V,
+    a: Addr,
+    kind: Kind,
+) -> Result<Got<Option<Value>>, Stop>
+    requires live { IsLive V.sense v.old }
+    requires safe { Safe V.sense.partial (item_by {S = S} a.0 kind) (V.sense.heap v.old) }
+    ensures { Meets V.sense (item_by a.0 kind) v.old v.new result }
+{
+    match kind {
+        Kind::Iter => next(alloc, v, a),
+        _ => Ok(Got::Raise(operand_fault(alloc)?)),
+    }
+}
+
+/// The next item of a record, if it is an iterator.
+#[tactic(auto, using(py_data::proofs::Rows::row_steps, py_data::proofs::Steps::call_steps))]
+fn next_item<S, V: View<S>>(alloc: Global, v: &mut V, a: Addr) -> Result<Got<Option<Value>>, Stop>
+    requires live { IsLive V.sense v.old }
+    requires safe { Safe V.sense.partial (item_of {S = S} a.0) (V.sense.heap v.old) }
+    ensures { Meets V.sense (item_of a.0) v.old v.new result }
+{
+    let kind = kind(v, a)?;
+    item_by(alloc, v, a, kind)
+}
+
+/// Nothing is pushed in the place of the one operand, and a place follows.
+fn jump(s: &mut ThreadState, place: u32) -> Result<Outcome, Stop>
+    requires some { 0 < length s.old.frames }
+    ensures ok { IfOk result (λ o. (p : Prog) → Settles (settled_in p s.old 1 (Jumps place []) s.old.frames) o s.new) }
+    ensures cause { IfErr result (λ e. e ≡ OutOfMemory) }
+    ensures err { OnErr result (s.new ≡ s.old) }
+{
+    if s.jumps_on(1, place) {
+        Ok(Outcome::Done)
+    } else {
+        Err(Stop::OutOfMemory)
+    }
+}
+
+/// A next item is pushed on its iterator, the one operand; where there is none, a place follows.
+fn came(s: &mut ThreadState, place: u32, o: Option<Value>) -> Result<Outcome, Stop>
+    requires some { 0 < length s.old.frames }
+    ensures ok { IfOk result (λ r. (p : Prog) → Settles (came p s.old place o) r s.new) }
+    ensures cause { IfErr result (λ e. e ≡ OutOfMemory) }
+    ensures err { OnErr result (s.new ≡ s.old) }
+{
+    match o {
+        Some(x) => give_one(s, 0, x),
+        None => jump(s, place),
+    }
+}
+
+/// An iterator's next item is pushed on it; a place follows where it is at its end.
+fn gone_on<V: View<ThreadState>>(
+    alloc: Global,
+    v: &mut V,
+    p: &Prepared,
+    s: &mut ThreadState,
+    place: u32,
+    it: Value,
+    got: Got<Option<Value>>,
+) -> Result<Outcome, Stop>
+    requires some { 0 < length s.old.frames }
+    requires operand { state.operands 1 (innermost s.old.frames) ≡ it ∷ [] }
+    requires live { IsLive V.sense v.old }
+    requires safe { Safe V.sense.partial (builds.next_or_end {S = state.State} (raising.place_of s.old.roots) place it got)
+        (V.sense.heap v.old) }
+    ensures { Moves V.sense (ended p.now s.old 1 (builds.next_or_end (raising.place_of s.old.roots) place it got))
+        v.old s.old v.new s.new result }
+{
+    match got {
+        Got::Is(o) => came(s, place, o),
+        Got::Raise(e) => raised(alloc, v, p, s, 1, &e),
+    }
+}
+
 /// A global name holds nothing: the builtin of that name is pushed, or the exception is raised.
 #[cold]
 #[inline(never)]
@@ -360,6 +442,27 @@ fn store_attr<V: View<ThreadState>>(
     done(alloc, v, p, s, 2, got)
 }
 
+/// NEXT of a record.
+fn go_on<V: View<ThreadState>>(
+    alloc: Global,
+    v: &mut V,
+    p: &Prepared,
+    s: &mut ThreadState,
+    place: u32,
+    a: Addr,
+) -> Result<Outcome, Stop>
+    requires some { 0 < length s.old.frames }
+    requires operand { state.operands 1 (innermost s.old.frames) ≡ Ref a ∷ [] }
+    requires live { IsLive V.sense v.old }
+    requires safe { Safe V.sense.partial (steps.step_at p.now s.old (innermost s.old.frames) (drop 1 s.old.frames)
+        (Some (Next place))) (V.sense.heap v.old) }
+    ensures { Moves V.sense (steps.step_at p.now s.old (innermost s.old.frames) (drop 1 s.old.frames)
+        (Some (Next place))) v.old s.old v.new s.new result }
+{
+    let got = next_item(alloc, v, a)?;
+    gone_on(alloc, v, p, s, place, Value::Ref(a), got)
+}
+
 /// The step of a thread that has a frame: does the instruction at hand, straight where its operands hold something, or
 /// by its row, and what it leads to.
 pub fn go<V: View<ThreadState>>(
@@ -397,6 +500,11 @@ pub fn go<V: View<ThreadState>>(
         Instr::StoreAttr(n) => {
             if let Some((x, o)) = two_operands(s) {
                 return store_attr(alloc, v, p, s, n, x, o);
+            }
+        }
+        Instr::Next(place) => {
+            if let Some(Value::Ref(a)) = operand(s) {
+                return go_on(alloc, v, p, s, place, a);
             }
         }
         _ => (),

@@ -1,6 +1,6 @@
 use Rattle.std.proofs.Common.{◌∙◌, ap}
 use Rattle.py_frames.specs.Raising as raising
-use Rattle.py_step.proofs.Straights.{part_moved, part_safe, more_moved, more_run, no_room, raised_at, settled_run}
+use Rattle.py_step.proofs.Straights.{part_moved, more_moved, more_run, no_room, raised_at, settled_run}
 use Rattle.py_step.proofs.straight.raised.Goals as goal
 
 pub returns-in_err-next : goal.returns-in_err-next
