@@ -206,7 +206,12 @@ fn item_at<S, V: View<S>>(alloc: Global, v: &mut V, a: Addr, i: Value) -> Result
 
 /// What a value has by an index.
 #[tactic(auto, using(py_data::proofs::Rows::row_steps), unfolding(py_frames::specs::ItemRows::item_of))]
-pub fn item_of<S, V: View<S>>(alloc: Global, v: &mut V, o: Value, i: Value) -> Result<Got<Value>, Stop>
+pub fn item_of<S, V: View<S>>(
+    alloc: Global,
+    v: &mut V,
+    o: Value,
+    i: Value,
+) -> Result<Got<Value>, Stop>
     requires live { IsLive V.sense v.old }
     requires safe { Safe V.sense.partial (rows.item_of {S = S} o i) (V.sense.heap v.old) }
     ensures { Meets V.sense (rows.item_of o i) v.old v.new result }

@@ -14,7 +14,8 @@ mod setup;
 pub use attributes::{del_attr_instr, load_attr_row, load_method_row, store_attr_row};
 pub use builds::{build_dict_row, build_row, iter_instr, next_instr, unpack_row};
 pub use globals::{
-    bound_row, del_global_row, del_name_row, load_global_row, load_name_row, store_global_row, store_name_row,
+    bound_row, del_global_row, del_name_row, load_global_row, load_name_row, store_global_row,
+    store_name_row,
 };
 pub use items::{del_item_instr, item_of, load_item_row, set_item, slice_instr, store_item_row};
 pub use locals::{const_row, del_local_row, load_local_row};
