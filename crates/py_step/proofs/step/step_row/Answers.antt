@@ -11,13 +11,13 @@ pub returns-in-Some : goal.returns-in-Some
 returns-in-Some g c = moves_as g.V.View.sense _ _ _ _ _ _ _
     (dying_is c.args.p.now c.args.s.now c.in-Some.d c.requires.lives (sym c.in-Some.ensures)) c.die.ensures
 
-pub go_by_row-requires-clause-operator : goal.go_by_row-requires-clause-operator
-go_by_row-requires-clause-operator g c = operator_here c.args.p.now c.args.s.now c.in-Some-instr_at.i
+pub go-requires-clause-operator : goal.go-requires-clause-operator
+go-requires-clause-operator g c = operator_here c.args.p.now c.args.s.now c.in-Some-instr_at.i
     c.requires.operable c.requires.lives (sym c.in_default.ensures)
     (at_of _ _ (innermost c.args.s.now.frames) _ c.program.ensures c.in-Some-instr_at.ensures)
 
-pub go_by_row-requires-clause-safe : goal.go_by_row-requires-clause-safe
-go_by_row-requires-clause-safe g c =
+pub go-requires-clause-safe : goal.go-requires-clause-safe
+go-requires-clause-safe g c =
     safe_as g.V.View.sense _ _ _ (at_is c.args.p.now c.args.s.now (Some c.in-Some-instr_at.i) c.requires.lives
     (sym c.in_default.ensures)
     (at_of _ _ (innermost c.args.s.now.frames) _ c.program.ensures c.in-Some-instr_at.ensures)) c.requires.safe
@@ -26,7 +26,7 @@ pub returns-in-Some-instr_at : goal.returns-in-Some-instr_at
 returns-in-Some-instr_at g c =
     moves_as g.V.View.sense _ _ _ _ _ _ _
     (at_is c.args.p.now c.args.s.now (Some c.in-Some-instr_at.i) c.requires.lives (sym c.in_default.ensures)
-    (at_of _ _ (innermost c.args.s.now.frames) _ c.program.ensures c.in-Some-instr_at.ensures)) c.go_by_row.ensures
+    (at_of _ _ (innermost c.args.s.now.frames) _ c.program.ensures c.in-Some-instr_at.ensures)) c.go.ensures
 
 pub returns-in-None : goal.returns-in-None
 returns-in-None g c =
