@@ -15,7 +15,7 @@ use Rattle.py_data.specs.declared.value.Value.{Value}
 use Rattle.py_data.specs.declared.value.Value.TheVariants.{Unset, None as NoneValue, Bool as Truth, Int, Ref, Builtin}
 use Rattle.py_data.specs.Fault.{operand_fault}
 use Rattle.py_data.specs.Heap.{Heap}
-use Rattle.py_data.specs.Row.{Row, Ret, Do, Read, bind}
+use Rattle.py_data.specs.Row.{Call, Reply, Row, Ret, Do, Read, bind}
 use Rattle.py_data.specs.Sense.{Sense, Lawful, Safe, Run, Stopped, Meets}
 use Rattle.py_data.proofs.Rows.{run_ret, run_bind, own_memory, stop_first, stop_then}
 use Rattle.py_data.proofs.Steps.{as_err, safe_first, safe_then}

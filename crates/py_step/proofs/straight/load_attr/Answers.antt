@@ -6,13 +6,11 @@ use Rattle.py_step.proofs.straight.load_attr.Goals as goal
 
 pub named_attr-requires-clause-safe : goal.named_attr-requires-clause-safe
 named_attr-requires-clause-safe g c = part_safe g.V.View.sense _ _ _ (load_attr_is c.args.p.now c.args.s.now _
-    (c.place_of.ensures ∙ ap raising.place_of c.roots.ensures) c.args.n c.args.o c.requires.operands
-    c.requires.set) _ c.requires.safe
+    (c.place_of.ensures ∙ ap raising.place_of c.roots.ensures) c.args.n c.args.o c.requires.operands c.requires.set) _ c.requires.safe
 
 pub returns-in_err-got : goal.returns-in_err-got
 returns-in_err-got g c = part_moved g.V.View.sense _ _ _ (load_attr_is c.args.p.now c.args.s.now _
-    (c.place_of.ensures ∙ ap raising.place_of c.roots.ensures) c.args.n c.args.o c.requires.operands
-    c.requires.set) c.args.s.now _ _ _ _
+    (c.place_of.ensures ∙ ap raising.place_of c.roots.ensures) c.args.n c.args.o c.requires.operands c.requires.set) c.args.s.now _ _ _ _
     c.in_err-got.ensures c.from_residual.ensures.1
 
 pub given-requires-clause-live : goal.given-requires-clause-live
@@ -22,11 +20,9 @@ given-requires-clause-live g c = live_after g.V.View.sense g.met.V.View.lawful _
 pub given-requires-clause-safe : goal.given-requires-clause-safe
 given-requires-clause-safe g c = still_safe _ c.args.p.now c.args.s.now 1 _ _
     (more_safe g.V.View.sense _ _ _ (load_attr_is c.args.p.now c.args.s.now _
-    (c.place_of.ensures ∙ ap raising.place_of c.roots.ensures) c.args.n c.args.o c.requires.operands
-    c.requires.set) g.met.V.View.lawful _ _ _ c.requires.safe c.in_ok-got.ensures)
+    (c.place_of.ensures ∙ ap raising.place_of c.roots.ensures) c.args.n c.args.o c.requires.operands c.requires.set) g.met.V.View.lawful _ _ _ c.requires.safe c.in_ok-got.ensures)
 
 pub returns : goal.returns
 returns g c = more_moved g.V.View.sense _ _ _ (load_attr_is c.args.p.now c.args.s.now _
-    (c.place_of.ensures ∙ ap raising.place_of c.roots.ensures) c.args.n c.args.o c.requires.operands
-    c.requires.set) c.args.s.now _ _ _ _ _ _ c.in_ok-got.ensures
+    (c.place_of.ensures ∙ ap raising.place_of c.roots.ensures) c.args.n c.args.o c.requires.operands c.requires.set) c.args.s.now _ _ _ _ _ _ c.in_ok-got.ensures
     c.given.ensures

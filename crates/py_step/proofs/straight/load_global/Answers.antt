@@ -20,8 +20,7 @@ bound-requires-clause-live g c = live_after g.V.View.sense g.met.V.View.lawful _
 pub bound-requires-clause-safe : goal.bound-requires-clause-safe
 bound-requires-clause-safe g c = still_safe _ c.args.p.now c.args.s.now 0 _ _
     (more_safe g.V.View.sense _ _ _ (load_global_is c.args.p.now c.args.s.now _
-    (c.place_of.ensures ∙ ap raising.place_of c.roots.ensures) c.args.g) g.met.V.View.lawful _ _ _ c.requires.safe
-    c.in_ok-x.ensures)
+    (c.place_of.ensures ∙ ap raising.place_of c.roots.ensures) c.args.g) g.met.V.View.lawful _ _ _ c.requires.safe c.in_ok-x.ensures)
 
 pub returns : goal.returns
 returns g c = more_moved g.V.View.sense _ _ _ (load_global_is c.args.p.now c.args.s.now _
