@@ -1,5 +1,7 @@
 //! How the arguments of a call are bound to the slots of a new frame.
-ghost use Rattle.std.specs.Prelude.{◌≡◌, ◌∷◌, ◌++◌, length, map, OnOk, IfOk};
+ghost use Rattle.std.specs.Prelude.{◌≡◌, List, [], ◌∷◌, ◌++◌, length, map, OnOk, IfOk, IfSome};
+ghost use Rattle.py_data.specs.declared.record.Got.TheVariants.{Is};
+ghost use Rattle.py_data.specs.declared.value.Value.{Value};
 ghost use Rattle.py_data.specs.Sense.{Meets, Safe, IsLive};
 ghost use Rattle.py_frames.specs.Binding as binding;
 ghost use Rattle.py_frames.specs.Raising as raising;
@@ -66,6 +68,20 @@ fn push_others(
     }
     let beside = last_defaults(alloc, names.len(), defaults)?;
     push_filled(out, p, names, g.names, g.values, beside.as_slice())
+}
+
+/// How many slots without a value stand behind the arguments in the frame of a call of a code, if `m` arguments without
+/// keywords are all that it takes. Then no default is used.
+pub fn plain_slots(p: &Program, n: u32, m: usize) -> Option<usize>
+    ensures { IfSome result (λ k. (g : binding.Given) → length g.args ≡ m → g.names ≡ [] → (ds : List Value) →
+        binding.bound_to p.now g n ds ≡ Is (binding.entered n (g.args ++ binding.unset_slots k))) }
+{
+    let params = params_at(p, n);
+    if params == m {
+        Some(slots_at(p, n).len().saturating_sub(params))
+    } else {
+        None
+    }
 }
 
 /// The slots of the frame: the arguments, what the other parameters get, and nothing in the slots behind them.
@@ -135,7 +151,7 @@ fn bound_to(
 
 /// The same, by the address of the defaults.
 #[tactic(auto, using(py_data::proofs::Rows::row_steps, py_data::proofs::Steps::call_steps), unfolding(py_frames::specs::Binding::defaulted_row))]
-fn defaulted_row<S, V: View<S>>(
+pub fn defaulted_row<S, V: View<S>>(
     alloc: Global,
     v: &mut V,
     p: &Program,

@@ -53,7 +53,7 @@ pub fn function_call<S, V: View<S>>(
 
 /// What the answer of a builtin leads to.
 #[tactic(auto, using(py_data::proofs::Rows::row_steps), unfolding(py_frames::specs::CallRows::answered))]
-fn answered<V: View<ThreadState>>(
+pub fn answered<V: View<ThreadState>>(
     alloc: Global,
     v: &mut V,
     s: &Site<'_>,
@@ -233,7 +233,7 @@ fn method_call<V: View<ThreadState>>(
 
 /// The call of a record of a kind. TypeError for one that can't be called.
 #[tactic(auto, using(py_data::proofs::Rows::row_steps), unfolding(py_frames::specs::CallRows::record_call))]
-fn record_call<V: View<ThreadState>>(
+pub fn record_call<V: View<ThreadState>>(
     alloc: Global,
     v: &mut V,
     s: &Site<'_>,

@@ -8,6 +8,7 @@ mod instances;
 mod named;
 mod starts;
 
-pub use calls::value_call;
-pub use class_calls::{class_call, exception_class_row};
+pub use binding::{count_in, defaulted_row, plain_slots};
+pub use calls::{answered, record_call, value_call};
+pub use class_calls::{MOST_FRAMES, class_call, entered_row, exception_class_row};
 pub use named::push_unset;

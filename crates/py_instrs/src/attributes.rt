@@ -130,7 +130,7 @@ fn missing_method<S, V: View<S>>(
 
 /// Pushes what was found: a function and the object that it is bound to, or any other attribute and nothing.
 #[tactic(auto, using(py_data::proofs::Rows::row_steps), unfolding(py_frames::specs::AttrInstrs::found_method))]
-fn found_method<S, V: View<S>>(
+pub fn found_method<S, V: View<S>>(
     alloc: Global,
     v: &mut V,
     roots: Addr,

@@ -1,12 +1,15 @@
 -- What changes of the three lists make of the frames.
-use Rattle.std.proofs.Common.{arith, ◌≡◌, ℕ, zero, suc, min, ◌+◌, ◌-◌, ◌<◌, ◌≤◌, ◌==◌, cond, List, [], ◌∷◌, ◌++◌, length, take, drop, Option, Some, ◌≢◌, refl, sym, ap, subst, ◌∙◌, slice_set, eq-eqb}
+use Rattle.std.proofs.Common.{arith, ◌≡◌, ℕ, zero, suc, min, ◌+◌, ◌-◌, ◌<◌, ◌≤◌, ◌==◌, cond, List, [], ◌∷◌, ◌++◌, append_assoc, length, take, drop, drop_of_length-le, replicate, Option, Some, None, ◌≢◌, refl, sym, ap, subst, ◌∙◌, slice_set, eq-eqb}
 use Rattle.std.proofs.Math.Dec.{eqb-suc-zero}
 use Rattle.std.proofs.lemmas.Bool.{ne_eqb}
-use Rattle.std.proofs.lemmas.List.{length-drop, length-take, length-take-le, take-take, take-append-le, drop-append-le, drop-take, take_min, append-nil, take-set-le, set_past, take_all, drop-set-add, drop-set-lt}
+use Rattle.std.proofs.lemmas.List.{length-drop, length-take, length-take-le, take-take, take-append-le, drop-append-le, drop-drop, drop-take, take_at, drop_at, take_min, append-nil, take-set-le, set_past, take_all, drop-set-add, drop-set-lt}
 use Rattle.py_data.specs.declared.value.Value.{Value}
 use Rattle.py_frames.specs.declared.state.Block.{Block}
 use Rattle.py_frames.specs.declared.state.Frame.{Frame}
-use Rattle.py_frames.specs.State.{advanced, pushed, stored}
+use Rattle.py_data.specs.declared.value.Value.TheVariants.{Unset}
+use Rattle.py_frames.specs.Binding.{entered, unset_slots}
+use Rattle.py_frames.specs.State.{advanced, operands, pushed, stored}
+use Rattle.py_states.specs.Innermost.{innermost}
 use Rattle.py_states.specs.declared.head.Head.{Head}
 use Rattle.py_states.specs.inner.Laid.{frame_of, laid, moved, IsLaid, opening}
 use Rattle.py_states.specs.inner.Changes.{on_top, restacked, placed, catching, catching_by}
@@ -233,3 +236,90 @@ pub opening_next : (i : ℕ) (hs : List Head) (h : Head) → drop i hs ≡ h ∷
     opening i (drop i hs) ≡ opening (i + 1) (drop (i + 1) hs)
 opening_next i hs h e l = ap (opening i) e ∙ ap (λ b. cond b (opening (i + 1) (drop (i + 1) hs)) (Some i))
     (eq-eqb h.blocks 0 l)
+
+-- ---- a frame at the start of a code, whose slots are m values of the innermost stack, and k more
+
+pub unset_is : (k : ℕ) → replicate k Unset ≡ unset_slots k
+unset_is zero = refl
+unset_is (suc k) = ap (λ xs. Unset ∷ xs) (unset_is k)
+
+-- the stack of the innermost frame is that high
+tall : (h : Head) (hs : List Head) (m : ℕ) (vs : List Value) (bs : List Block) → hs ≡ h ∷ drop 1 hs →
+    (let f = innermost (laid hs vs bs) in m < length f.stack) → m < length vs - h.base - h.slots
+tall h hs m vs bs e l =
+    let q : m < length (drop h.slots (drop h.base vs)) =
+    subst (λ z. let f = innermost (laid z vs bs) in m < length f.stack) e l in
+    let own : length (drop h.base vs) ≡ length vs - h.base = length-drop h.base vs in
+    let above : length (drop h.slots (drop h.base vs)) ≡ length vs - h.base - h.slots =
+    length-drop h.slots (drop h.base vs) ∙ ap (λ z. z - h.slots) own in
+    subst (λ z. m < z) above q
+
+module _ (h : Head) (hs : List Head) (m k b t code : ℕ) (vs ws us : List Value) (bs : List Block)
+    (e : hs ≡ h ∷ drop 1 hs) (laid_so : IsLaid hs vs bs)
+    (l : let f = innermost (laid hs vs bs) in m < length f.stack) (is : b ≡ length vs - m - 1)
+    (q : ws ≡ take b vs ++ drop (b + 1) vs) (r : us ≡ ws ++ replicate k Unset) where
+  low : h.base + h.slots + m + 1 ≤ length vs
+  low = omega (arith, tall h hs m vs bs e l)
+
+  front : length (take b vs) ≡ b
+  front = length-take-le b vs (omega (arith, is))
+
+  all_is : us ≡ take b vs ++ (drop (b + 1) vs ++ unset_slots k)
+  all_is = r ∙ (ap (λ z. z ++ replicate k Unset) q ∙ (append_assoc (take b vs) (drop (b + 1) vs) (replicate k Unset) ∙
+      ap (λ z. take b vs ++ (drop (b + 1) vs ++ z)) (unset_is k)))
+
+  below : take b us ≡ take b vs
+  below = ap (take b) all_is ∙ take_at (take b vs) (drop (b + 1) vs ++ unset_slots k) b front
+
+  new : drop b us ≡ drop (b + 1) vs ++ unset_slots k
+  new = ap (drop b) all_is ∙ drop_at (take b vs) (drop (b + 1) vs ++ unset_slots k) b front
+
+  new_is : length (drop b us) ≡ length us - b
+  new_is = length-drop b us
+
+  -- the values of the stack
+  moved_up : drop (b + 1) vs ≡ operands m (innermost (laid hs vs bs))
+  moved_up =
+      let own : length (drop h.base vs) ≡ length vs - h.base = length-drop h.base vs in
+      let above : length (drop h.slots (drop h.base vs)) ≡ length vs - h.base - h.slots =
+      length-drop h.slots (drop h.base vs) ∙ ap (λ z. z - h.slots) own in
+      let n : ℕ = length (drop h.slots (drop h.base vs)) - m in
+      let same : b + 1 ≡ h.base + (h.slots + n) = omega (arith, is, low, above) in
+      ap (λ z. drop z vs) same
+      ∙ (sym (drop-drop (h.slots + n) h.base vs)
+      ∙ (sym (drop-drop n h.slots (drop h.base vs))
+      ∙ sym (ap (λ z. operands m (innermost (laid z vs bs))) e)))
+
+  abbrev head_is : Head
+  head_is = record {
+    code = code;
+    pc = 0;
+    made = Unset;
+    names = None;
+    base = b;
+    slots = length us - b;
+    blocks = 0;
+  }
+
+  under : laid (moved t hs) (take b us) bs ≡ on_top (advanced (m + 1) [] t) (laid hs vs bs)
+  under = ap (λ z. laid (moved t hs) z bs) below
+      ∙ passed_laid h hs (m + 1) t b vs bs e laid_so (omega (arith, is, low))
+
+  pub entered_laid : laid (head_is ∷ moved t hs) us bs
+      ≡ entered code (operands m (innermost (laid hs vs bs)) ++ unset_slots k)
+      ∷ on_top (advanced (m + 1) [] t) (laid hs vs bs)
+  entered_laid =
+      let whole : take (length us - b) (drop b us) ≡ operands m (innermost (laid hs vs bs)) ++ unset_slots k =
+      take_all (length us - b) (drop b us) (omega (arith, new_is))
+      ∙ (new ∙ ap (λ z. z ++ unset_slots k) moved_up) in
+      let none : drop (length us - b) (drop b us) ≡ [] =
+      drop_of_length-le (drop b us) (omega (arith, new_is)) in
+      λ i. record {
+        code = code;
+        pc = 0;
+        slots = whole i;
+        stack = none i;
+        blocks = [];
+        made = Unset;
+        names = None;
+      } ∷ under i

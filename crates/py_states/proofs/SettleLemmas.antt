@@ -116,6 +116,11 @@ waits_is p s t n next (f ∷ fs) e q l =
     let make : State → Outcome × State = λ z. (WaitsNow, z) in
     ap make q ∙ sym (ap (settled p s n f fs) e)
 
+-- what has values on its stack is a frame
+pub stacked : (m : ℕ) (fs : List Frame) → (let f = innermost fs in m < length f.stack) → 0 < length fs
+stacked m [] l = absurd (omega (arith, l))
+stacked m (f ∷ fs) l = omega arith
+
 -- a step of which is told alone that the thread lives on
 pub followed : {E : Type 0} (s t : State) (n : ℕ) (next : Next) (x : Outcome × State) (r : Result Outcome E)
     (b : Bool) → b ≡ is_ok r → IfOk r (λ o. Settles x o t) → OnErr r (t ≡ s) → x.0 ≡ Done →

@@ -1,10 +1,11 @@
 //! The frames of a thread, one behind the other in three lists.
-ghost use Rattle.std.specs.Prelude.{◌≡◌, ◌+◌, ◌-◌, ◌<◌, ◌≤◌, [], ◌∷◌, length, drop, slice_get, OnOk, IfOk, IsTrue, ◌↔◌};
+ghost use Rattle.std.specs.Prelude.{◌≡◌, ◌+◌, ◌-◌, ◌<◌, ◌≤◌, [], ◌∷◌, ◌++◌, length, drop, slice_get, OnOk, IfOk, IsTrue, ◌↔◌};
 ghost use Rattle.py_states.specs.Innermost.{innermost};
 ghost use Rattle.py_states.specs.inner.Changes.{on_top, restacked, placed, catching};
 ghost use Rattle.py_states.specs.inner.Framed.{HasRoom};
 ghost use Rattle.py_states.specs.inner.Laid.{opening};
-ghost use Rattle.py_frames.specs.State.{advanced, pushed, stored, opened, closed};
+ghost use Rattle.py_frames.specs.Binding.{entered, unset_slots};
+ghost use Rattle.py_frames.specs.State.{advanced, pushed, stored, opened, operands, closed};
 
 use crate::head::Head;
 use crate::pile::Pile;
@@ -339,6 +340,32 @@ impl Frames {
             slots: g.slots.len(),
             blocks: g.blocks.len(),
         });
+    }
+
+    /// Enters a frame at the start of a code, whose slots are the top `m` values of the innermost frame's stack and
+    /// `k` more that hold nothing. The frame round it goes on at a place, without these values and the one below them.
+    pub fn enter(&mut self, m: usize, k: usize, code: u32, place: u32)
+        requires there { let f = innermost self.old.frames in m < length f.stack }
+        requires values { k ≤ self.old.more_values }
+        requires frames { 0 < self.old.more_frames }
+        ensures { self.new.frames ≡ entered code (operands m (innermost self.old.frames) ++ unset_slots k) ∷
+            on_top (advanced (m + 1) [] place) self.old.frames }
+    {
+        if let Some(_) = self.heads.top() {
+            let base = self.values.len() - m - 1;
+            self.values.remove(base);
+            self.values.fill(k, Value::Unset);
+            self.heads.move_top(place);
+            self.heads.push(Head {
+                code,
+                pc: 0,
+                made: Value::Unset,
+                names: None,
+                base,
+                slots: self.values.len() - base,
+                blocks: 0,
+            });
+        }
     }
 
     /// Leaves the innermost frame.

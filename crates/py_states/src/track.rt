@@ -1,5 +1,5 @@
 //! Tracks: lists that grow and shrink at their end, with room that can be made beforehand.
-ghost use Rattle.std.specs.Prelude.{◌≡◌, ◌+◌, ◌<◌, ◌≤◌, [], ◌∷◌, ◌++◌, length, take, slice_set, OnOk, IfOk, IsTrue};
+ghost use Rattle.std.specs.Prelude.{◌≡◌, ◌+◌, ◌<◌, ◌≤◌, [], ◌∷◌, ◌++◌, length, take, drop, replicate, slice_set, OnOk, IfOk, IsTrue};
 
 use py_base::NoMemory;
 use std::alloc::Global;
@@ -81,6 +81,23 @@ impl<T: Copy> Track<T> {
                 let _ = self.items.extend_from_slice(xs);
             }
         }
+    }
+
+    /// Adds an element `n` times at the end, where there is room.
+    pub fn fill(&mut self, n: usize, x: T)
+        requires { n ≤ self.old.room }
+        ensures { self.new.entries ≡ self.old.entries ++ replicate n x }
+    {
+        let _ = self.items.resize(self.items.len() + n, x);
+    }
+
+    /// Lets the element at a place go; those behind it come down.
+    pub fn remove(&mut self, i: usize)
+        requires { i < length self.old.entries }
+        ensures entries { self.new.entries ≡ take i self.old.entries ++ drop (i + 1) self.old.entries }
+        ensures room { self.old.room ≤ self.new.room }
+    {
+        let _ = self.items.remove(i);
     }
 
     /// Keeps the first `n` elements, or all where there are fewer.

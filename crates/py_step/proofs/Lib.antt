@@ -8,4 +8,4 @@ mod BuiltinWaits
 mod CallWaits
 mod StepWaits
 mod Directs
-mod Straights
+mod FastPaths

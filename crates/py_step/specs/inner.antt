@@ -3,4 +3,4 @@ pub mod Peeked
 pub mod Moves
 pub mod Operators
 pub mod Directly
-pub mod Straight
+pub mod FastPath

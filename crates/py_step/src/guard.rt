@@ -25,7 +25,7 @@ fn is_unset(x: Value) -> bool
 }
 
 /// One of the values is Unset.
-fn has_unset(values: &[Value]) -> bool
+pub fn has_unset(values: &[Value]) -> bool
     ensures { result ≡ steps.has_unset values.now }
 {
     values.iter().any(|x| is_unset(*x))

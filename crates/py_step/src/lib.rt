@@ -3,14 +3,16 @@
 
 mod at_once;
 mod blocked;
+mod calls;
 mod client;
+mod ends;
+mod fast;
 mod guard;
 mod instrs;
 mod operands;
 mod place;
 mod prepared;
 mod step;
-mod straight;
 
 pub use blocked::would_wait;
 pub use client::PyClient;

@@ -11,11 +11,12 @@ ghost use Rattle.py_step.specs.inner.Moves.{Moves, dying_step, dying_words};
 ghost use Rattle.py_step.specs.inner.Operators.{HasOperator, IsOperable};
 
 use crate::at_once::do_at_once;
+use crate::ends::settle;
+use crate::fast::go;
 use crate::guard::guarded_row;
 use crate::operands::pops;
 use crate::place::{instr_at, place_of, site};
 use crate::prepared::Prepared;
-use crate::straight::go;
 use lock_run::Outcome;
 use py_code::{Instr, Program};
 use py_data::{Stop, View};
@@ -67,8 +68,7 @@ pub(crate) fn go_by_row<V: View<ThreadState>>(
     let program = p.program();
     let n = pops(program, s, i);
     let next = next_of(alloc, v, p, s, n, i)?;
-    let outcome = s.settle(program, n, next)?;
-    Ok(outcome)
+    settle(p, s, n, next)
 }
 
 /// The step of a thread that lives, if it is of an instruction that asks nothing of the heap and raises nothing:

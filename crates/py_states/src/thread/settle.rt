@@ -1,7 +1,8 @@
 //! What an instruction leads to, done to the state of the thread.
-ghost use Rattle.std.specs.Prelude.{◌≡◌, ◌+◌, ◌-◌, ◌∷◌, length, drop, get_or, Some, IfOk, OnErr};
+ghost use Rattle.std.specs.Prelude.{◌≡◌, ◌+◌, ◌-◌, ◌<◌, ◌∷◌, ◌++◌, length, drop, get_or, Some, IfOk, OnErr};
 ghost use Rattle.lock_run.specs.declared.client.Outcome.TheVariants.{Done};
-ghost use Rattle.py_frames.specs.State.{advanced, closed, code_at, line_at as line_of, opened, passed, returned, stored, thrown_to, unwound, with_frames};
+ghost use Rattle.py_frames.specs.Binding.{entered, unset_slots};
+ghost use Rattle.py_frames.specs.State.{advanced, closed, code_at, line_at as line_of, opened, operands, passed, returned, stored, thrown_to, unwound, with_frames};
 ghost use Rattle.py_states.specs.Innermost.{innermost, settled_in, Settles};
 ghost use Rattle.py_states.specs.inner.Changes.{on_top, with_top};
 
@@ -103,6 +104,24 @@ impl ThreadState {
         self.frames.make_room_for(frame)?;
         self.frames.pass(n, place);
         self.frames.push(frame);
+        Ok(Outcome::Done)
+    }
+
+    /// A frame at the start of a code is entered, whose slots are the top `m` values of the stack and `k` more that
+    /// hold nothing. The one round it stands on the next place, without these values and the one below them.
+    pub(super) fn enters_over(&mut self, m: usize, k: usize, code: u32) -> Result<Outcome, NoMemory>
+        requires { let f = innermost self.old.frames in m < length f.stack }
+        ensures ok { IfOk result (λ o. Settles (
+          Done,
+          with_frames self.old
+              (entered code (operands m (innermost self.old.frames) ++ unset_slots k) ∷
+              on_top (passed (m + 1)) self.old.frames),
+        ) o self.new) }
+        ensures err { OnErr result (self.new ≡ self.old) }
+    {
+        let place = self.frames.next_place()?;
+        self.frames.make_room(k, 1, 0)?;
+        self.frames.enter(m, k, code, place);
         Ok(Outcome::Done)
     }
 

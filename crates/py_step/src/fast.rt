@@ -1,5 +1,5 @@
-//! Instructions that look at the heap or change it, and whose one value goes straight to the frame: most that a program
-//! does. They do their row, as `instrs` would, without a large answer on the way.
+//! The fast path: instructions that look at the heap or change it, and give their values to the frame at once, without a
+//! large answer (`Next`) on the way. They do their row, as `instrs` would. Calls stand in `calls`.
 ghost use Rattle.std.specs.Prelude.{◌≡◌, ◌≢◌, ◌<◌, [], ◌∷◌, Some, drop, length, IfOk, IfErr, IfSome, OnErr};
 ghost use Rattle.py_data.specs.declared.stop.Stop.TheVariants.{OutOfMemory};
 ghost use Rattle.py_data.specs.declared.value.Value.TheVariants.{Ref, Unset};
@@ -15,112 +15,23 @@ ghost use Rattle.py_frames.specs.Steps as steps;
 ghost use Rattle.py_states.specs.Innermost.{innermost, settled_in, Settles};
 ghost use Rattle.py_step.specs.inner.Moves.{Moves};
 ghost use Rattle.py_step.specs.inner.Operators.{HasOperator};
-ghost use Rattle.py_step.specs.inner.Straight.{came, ended, global_value, item_by, item_of, named_attr, set_named_attr};
+ghost use Rattle.py_step.specs.inner.FastPath.{ended, global_value, got_of_two, item_by, item_end, method_by, named_attr, next_item, set_global, set_named_attr, IsOfTwo};
 
+use crate::calls::{call, call_method, callee};
+use crate::ends::{done, give_none, give_one, give_two, given, jump, raised, settle};
 use crate::place::place_of;
 use crate::prepared::Prepared;
 use crate::step::go_by_row;
 use lock_run::Outcome;
-use obj_class::{attr, set_attr};
+use obj_class::{Found, attr, find_attr, set_attr};
+use obj_ops::{binary, compare, in_place};
 use obj_seq::next;
 use py_code::Instr;
-use py_data::{Addr, Fault, Got, Kind, Stop, Value, View, kind, look};
+use py_data::{Addr, Got, Kind, Stop, Value, View, kind, look};
 use py_instrs::{bound_row, item_of, set_item};
-use py_parts::{operand_fault, place_in, raise_row, root_name};
+use py_parts::{operand_fault, place_in, root_name};
 use py_states::ThreadState;
 use std::alloc::Global;
-
-/// A value is pushed in the place of `n` operands.
-fn give_one(s: &mut ThreadState, n: usize, x: Value) -> Result<Outcome, Stop>
-    requires some { 0 < length s.old.frames }
-    ensures ok { IfOk result (λ o. (p : Prog) → Settles (settled_in p s.old n (Goes (x ∷ [])) s.old.frames) o s.new) }
-    ensures cause { IfErr result (λ e. e ≡ OutOfMemory) }
-    ensures err { OnErr result (s.new ≡ s.old) }
-{
-    if s.gives(n, x) {
-        Ok(Outcome::Done)
-    } else {
-        Err(Stop::OutOfMemory)
-    }
-}
-
-/// Nothing is pushed in the place of `n` operands.
-fn give_none(s: &mut ThreadState, n: usize) -> Result<Outcome, Stop>
-    requires some { 0 < length s.old.frames }
-    ensures ok { IfOk result (λ o. (p : Prog) → Settles (settled_in p s.old n (Goes []) s.old.frames) o s.new) }
-    ensures cause { IfErr result (λ e. e ≡ OutOfMemory) }
-    ensures err { OnErr result (s.new ≡ s.old) }
-{
-    if s.passes_on(n) {
-        Ok(Outcome::Done)
-    } else {
-        Err(Stop::OutOfMemory)
-    }
-}
-
-/// An exception is raised where an instruction has taken `n` operands.
-#[cold]
-#[inline(never)]
-fn raised<V: View<ThreadState>>(
-    alloc: Global,
-    v: &mut V,
-    p: &Prepared,
-    s: &mut ThreadState,
-    n: usize,
-    e: &Fault,
-) -> Result<Outcome, Stop>
-    requires some { 0 < length s.old.frames }
-    requires live { IsLive V.sense v.old }
-    requires safe { Safe V.sense.partial (raising.raise_row {S = state.State} (raising.place_of s.old.roots) e.now) (V.sense.heap v.old) }
-    ensures { Moves V.sense (ended p.now s.old n (raising.raise_row (raising.place_of s.old.roots) e.now))
-        v.old s.old v.new s.new result }
-{
-    let next = raise_row(alloc, v, place_of(s.roots()), e)?;
-    let outcome = s.settle(p.program(), n, next)?;
-    Ok(outcome)
-}
-
-/// The value that was got is pushed in the place of `n` operands, or the exception is raised.
-fn given<V: View<ThreadState>>(
-    alloc: Global,
-    v: &mut V,
-    p: &Prepared,
-    s: &mut ThreadState,
-    n: usize,
-    got: Got<Value>,
-) -> Result<Outcome, Stop>
-    requires some { 0 < length s.old.frames }
-    requires live { IsLive V.sense v.old }
-    requires safe { Safe V.sense.partial (raising.give {S = state.State} (raising.place_of s.old.roots) got) (V.sense.heap v.old) }
-    ensures { Moves V.sense (ended p.now s.old n (raising.give (raising.place_of s.old.roots) got))
-        v.old s.old v.new s.new result }
-{
-    match got {
-        Got::Is(x) => give_one(s, n, x),
-        Got::Raise(e) => raised(alloc, v, p, s, n, &e),
-    }
-}
-
-/// What was to be done to `n` operands was done, or the exception is raised.
-fn done<V: View<ThreadState>>(
-    alloc: Global,
-    v: &mut V,
-    p: &Prepared,
-    s: &mut ThreadState,
-    n: usize,
-    got: Got<()>,
-) -> Result<Outcome, Stop>
-    requires some { 0 < length s.old.frames }
-    requires live { IsLive V.sense v.old }
-    requires safe { Safe V.sense.partial (raising.done {S = state.State} (raising.place_of s.old.roots) got) (V.sense.heap v.old) }
-    ensures { Moves V.sense (ended p.now s.old n (raising.done (raising.place_of s.old.roots) got))
-        v.old s.old v.new s.new result }
-{
-    match got {
-        Got::Is(_) => give_none(s, n),
-        Got::Raise(e) => raised(alloc, v, p, s, n, &e),
-    }
-}
 
 /// The operand of a thread's instruction, if it holds something.
 fn operand(s: &ThreadState) -> Option<Value>
@@ -166,6 +77,17 @@ fn global_value<S, V: View<S>>(v: &mut V, roots: Addr, g: u32) -> Result<Value, 
 {
     let cell = look(v, roots, g as usize)?;
     look(v, place_in(cell), 0)
+}
+
+/// A value in the cell of a global name, by its number among the roots.
+#[tactic(auto, using(py_data::proofs::Rows::change_steps, py_data::proofs::Steps::call_steps))]
+fn set_global<S, V: View<S>>(v: &mut V, roots: Addr, g: u32, x: Value) -> Result<(), Stop>
+    requires live { IsLive V.sense v.old }
+    requires safe { Safe V.sense.partial (set_global {S = S} roots.0 g x) (V.sense.heap v.old) }
+    ensures { Meets V.sense (set_global roots.0 g x) v.old v.new result }
+{
+    let cell = look(v, roots, g as usize)?;
+    v.set_val(place_in(cell), 0, x)
 }
 
 /// An attribute, by the number of its name among the roots.
@@ -225,31 +147,17 @@ fn item_by<S, V: View<S>>(
 #[tactic(auto, using(py_data::proofs::Rows::row_steps, py_data::proofs::Steps::call_steps))]
 fn next_item<S, V: View<S>>(alloc: Global, v: &mut V, a: Addr) -> Result<Got<Option<Value>>, Stop>
     requires live { IsLive V.sense v.old }
-    requires safe { Safe V.sense.partial (item_of {S = S} a.0) (V.sense.heap v.old) }
-    ensures { Meets V.sense (item_of a.0) v.old v.new result }
+    requires safe { Safe V.sense.partial (next_item {S = S} a.0) (V.sense.heap v.old) }
+    ensures { Meets V.sense (next_item a.0) v.old v.new result }
 {
     let kind = kind(v, a)?;
     item_by(alloc, v, a, kind)
 }
 
-/// Nothing is pushed in the place of the one operand, and a place follows.
-fn jump(s: &mut ThreadState, place: u32) -> Result<Outcome, Stop>
-    requires some { 0 < length s.old.frames }
-    ensures ok { IfOk result (λ o. (p : Prog) → Settles (settled_in p s.old 1 (Jumps place []) s.old.frames) o s.new) }
-    ensures cause { IfErr result (λ e. e ≡ OutOfMemory) }
-    ensures err { OnErr result (s.new ≡ s.old) }
-{
-    if s.jumps_on(1, place) {
-        Ok(Outcome::Done)
-    } else {
-        Err(Stop::OutOfMemory)
-    }
-}
-
 /// A next item is pushed on its iterator, the one operand; where there is none, a place follows.
-fn came(s: &mut ThreadState, place: u32, o: Option<Value>) -> Result<Outcome, Stop>
+fn end_by_item(s: &mut ThreadState, place: u32, o: Option<Value>) -> Result<Outcome, Stop>
     requires some { 0 < length s.old.frames }
-    ensures ok { IfOk result (λ r. (p : Prog) → Settles (came p s.old place o) r s.new) }
+    ensures ok { IfOk result (λ r. (p : Prog) → Settles (item_end p s.old place o) r s.new) }
     ensures cause { IfErr result (λ e. e ≡ OutOfMemory) }
     ensures err { OnErr result (s.new ≡ s.old) }
 {
@@ -260,7 +168,7 @@ fn came(s: &mut ThreadState, place: u32, o: Option<Value>) -> Result<Outcome, St
 }
 
 /// An iterator's next item is pushed on it; a place follows where it is at its end.
-fn gone_on<V: View<ThreadState>>(
+fn next_or_end<V: View<ThreadState>>(
     alloc: Global,
     v: &mut V,
     p: &Prepared,
@@ -278,7 +186,7 @@ fn gone_on<V: View<ThreadState>>(
         v.old s.old v.new s.new result }
 {
     match got {
-        Got::Is(o) => came(s, place, o),
+        Got::Is(o) => end_by_item(s, place, o),
         Got::Raise(e) => raised(alloc, v, p, s, 1, &e),
     }
 }
@@ -305,8 +213,7 @@ fn unbound<V: View<ThreadState>>(
     let program = p.program();
     let name = root_name(program, g);
     let next = bound_row(alloc, v, place_of(s.roots()), program, name, Value::Unset)?;
-    let outcome = s.settle(program, 0, next)?;
-    Ok(outcome)
+    settle(p, s, 0, next)
 }
 
 /// A global name's value is pushed, or, where it holds nothing, what stands for it.
@@ -352,25 +259,52 @@ fn load_global<V: View<ThreadState>>(
     bound(alloc, v, p, s, g, x)
 }
 
-/// LOAD_ITEM of an object by an index or a key.
-fn load_item<V: View<ThreadState>>(
+/// What an instruction gives that takes two operands and gives one value: LOAD_ITEM, BINARY, IN_PLACE and COMPARE.
+#[tactic(auto, using(py_data::proofs::Rows::row_steps))]
+fn got_of_two<S, V: View<S>>(
+    alloc: Global,
+    v: &mut V,
+    roots: Addr,
+    i: Instr,
+    x: Value,
+    y: Value,
+) -> Result<Got<Value>, Stop>
+    requires operator { HasOperator i }
+    requires live { IsLive V.sense v.old }
+    requires safe { Safe V.sense.partial (got_of_two {S = S} roots.0 i x y) (V.sense.heap v.old) }
+    ensures { Meets V.sense (got_of_two roots.0 i x y) v.old v.new result }
+{
+    match i {
+        Instr::LoadItem => item_of(alloc, v, x, y),
+        Instr::Binary(o) => binary(alloc, v, roots, o, x, y),
+        Instr::InPlace(o) => in_place(alloc, v, roots, o, x, y),
+        Instr::Compare(o) => compare(alloc, v, o, x, y),
+        _ => Ok(Got::Raise(operand_fault(alloc)?)),
+    }
+}
+
+/// LOAD_ITEM, BINARY, IN_PLACE and COMPARE of two operands.
+fn give_of_two<V: View<ThreadState>>(
     alloc: Global,
     v: &mut V,
     p: &Prepared,
     s: &mut ThreadState,
-    o: Value,
-    i: Value,
+    i: Instr,
+    x: Value,
+    y: Value,
 ) -> Result<Outcome, Stop>
     requires some { 0 < length s.old.frames }
-    requires operands { state.operands 2 (innermost s.old.frames) ≡ o ∷ i ∷ [] }
-    requires set { (o ≢ Unset) × (i ≢ Unset) }
+    requires operator { HasOperator i }
+    requires of_two { IsOfTwo i }
+    requires operands { state.operands 2 (innermost s.old.frames) ≡ x ∷ y ∷ [] }
+    requires set { (x ≢ Unset) × (y ≢ Unset) }
     requires live { IsLive V.sense v.old }
     requires safe { Safe V.sense.partial (steps.step_at p.now s.old (innermost s.old.frames) (drop 1 s.old.frames)
-        (Some LoadItem)) (V.sense.heap v.old) }
-    ensures { Moves V.sense (steps.step_at p.now s.old (innermost s.old.frames) (drop 1 s.old.frames) (Some LoadItem))
+        (Some i)) (V.sense.heap v.old) }
+    ensures { Moves V.sense (steps.step_at p.now s.old (innermost s.old.frames) (drop 1 s.old.frames) (Some i))
         v.old s.old v.new s.new result }
 {
-    let got = item_of(alloc, v, o, i)?;
+    let got = got_of_two(alloc, v, place_of(s.roots()), i, x, y)?;
     given(alloc, v, p, s, 2, got)
 }
 
@@ -442,8 +376,115 @@ fn store_attr<V: View<ThreadState>>(
     done(alloc, v, p, s, 2, got)
 }
 
+/// LOAD_METHOD finds nothing, and raises.
+#[cold]
+#[inline(never)]
+fn no_method<V: View<ThreadState>>(
+    alloc: Global,
+    v: &mut V,
+    p: &Prepared,
+    s: &mut ThreadState,
+    o: Value,
+    name: Addr,
+) -> Result<Outcome, Stop>
+    requires some { 0 < length s.old.frames }
+    requires live { IsLive V.sense v.old }
+    requires safe { Safe V.sense.partial (found_method {S = state.State} (raising.place_of s.old.roots) o name.0 None)
+        (V.sense.heap v.old) }
+    ensures { Moves V.sense (ended p.now s.old 1 (found_method (raising.place_of s.old.roots) o name.0 None))
+        v.old s.old v.new s.new result }
+{
+    let next = py_instrs::found_method(alloc, v, place_of(s.roots()), o, name, None)?;
+    settle(p, s, 1, next)
+}
+
+/// What was found is pushed: what is bound and its object, or any other attribute and nothing; or it raises.
+fn found_method<V: View<ThreadState>>(
+    alloc: Global,
+    v: &mut V,
+    p: &Prepared,
+    s: &mut ThreadState,
+    o: Value,
+    name: Addr,
+    found: Option<Found>,
+) -> Result<Outcome, Stop>
+    requires some { 0 < length s.old.frames }
+    requires live { IsLive V.sense v.old }
+    requires safe { Safe V.sense.partial (found_method {S = state.State} (raising.place_of s.old.roots) o name.0 found)
+        (V.sense.heap v.old) }
+    ensures { Moves V.sense (ended p.now s.old 1 (found_method (raising.place_of s.old.roots) o name.0 found))
+        v.old s.old v.new s.new result }
+{
+    match found {
+        Some(Found::Plain(x)) => give_two(s, 1, x, Value::Unset),
+        Some(Found::Bound(f)) => give_two(s, 1, f, o),
+        None => no_method(alloc, v, p, s, o, name),
+    }
+}
+
+/// LOAD_METHOD, by the address of the name.
+fn method_by<V: View<ThreadState>>(
+    alloc: Global,
+    v: &mut V,
+    p: &Prepared,
+    s: &mut ThreadState,
+    o: Value,
+    name: Addr,
+) -> Result<Outcome, Stop>
+    requires some { 0 < length s.old.frames }
+    requires live { IsLive V.sense v.old }
+    requires safe { Safe V.sense.partial (method_by p.now s.old o name.0) (V.sense.heap v.old) }
+    ensures { Moves V.sense (method_by p.now s.old o name.0) v.old s.old v.new s.new result }
+{
+    let found = find_attr(alloc, v, place_of(s.roots()), o, name)?;
+    found_method(alloc, v, p, s, o, name, found)
+}
+
+/// LOAD_METHOD of an object.
+fn load_method<V: View<ThreadState>>(
+    alloc: Global,
+    v: &mut V,
+    p: &Prepared,
+    s: &mut ThreadState,
+    n: u32,
+    o: Value,
+) -> Result<Outcome, Stop>
+    requires some { 0 < length s.old.frames }
+    requires operands { state.operands 1 (innermost s.old.frames) ≡ o ∷ [] }
+    requires set { o ≢ Unset }
+    requires live { IsLive V.sense v.old }
+    requires safe { Safe V.sense.partial (steps.step_at p.now s.old (innermost s.old.frames) (drop 1 s.old.frames)
+        (Some (LoadMethod n))) (V.sense.heap v.old) }
+    ensures { Moves V.sense (steps.step_at p.now s.old (innermost s.old.frames) (drop 1 s.old.frames)
+        (Some (LoadMethod n))) v.old s.old v.new s.new result }
+{
+    let name = look(v, place_of(s.roots()), n as usize)?;
+    method_by(alloc, v, p, s, o, place_in(name))
+}
+
+/// STORE_GLOBAL of a value.
+fn store_global<V: View<ThreadState>>(
+    v: &mut V,
+    p: &Prepared,
+    s: &mut ThreadState,
+    g: u32,
+    x: Value,
+) -> Result<Outcome, Stop>
+    requires some { 0 < length s.old.frames }
+    requires operands { state.operands 1 (innermost s.old.frames) ≡ x ∷ [] }
+    requires set { x ≢ Unset }
+    requires live { IsLive V.sense v.old }
+    requires safe { Safe V.sense.partial (steps.step_at p.now s.old (innermost s.old.frames) (drop 1 s.old.frames)
+        (Some (StoreGlobal g))) (V.sense.heap v.old) }
+    ensures { Moves V.sense (steps.step_at p.now s.old (innermost s.old.frames) (drop 1 s.old.frames)
+        (Some (StoreGlobal g))) v.old s.old v.new s.new result }
+{
+    set_global(v, place_of(s.roots()), g, x)?;
+    give_none(s, 1)
+}
+
 /// NEXT of a record.
-fn go_on<V: View<ThreadState>>(
+fn next_of<V: View<ThreadState>>(
     alloc: Global,
     v: &mut V,
     p: &Prepared,
@@ -460,7 +501,7 @@ fn go_on<V: View<ThreadState>>(
         (Some (Next place))) v.old s.old v.new s.new result }
 {
     let got = next_item(alloc, v, a)?;
-    gone_on(alloc, v, p, s, place, Value::Ref(a), got)
+    next_or_end(alloc, v, p, s, place, Value::Ref(a), got)
 }
 
 /// The step of a thread that has a frame: does the instruction at hand, straight where its operands hold something, or
@@ -482,9 +523,14 @@ pub fn go<V: View<ThreadState>>(
 {
     match i {
         Instr::LoadGlobal(g) => return load_global(alloc, v, p, s, g),
-        Instr::LoadItem => {
-            if let Some((o, key)) = two_operands(s) {
-                return load_item(alloc, v, p, s, o, key);
+        Instr::StoreGlobal(g) => {
+            if let Some(x) = operand(s) {
+                return store_global(v, p, s, g, x);
+            }
+        }
+        Instr::LoadItem | Instr::Binary(_) | Instr::InPlace(_) | Instr::Compare(_) => {
+            if let Some((x, y)) = two_operands(s) {
+                return give_of_two(alloc, v, p, s, i, x, y);
             }
         }
         Instr::StoreItem => {
@@ -502,9 +548,24 @@ pub fn go<V: View<ThreadState>>(
                 return store_attr(alloc, v, p, s, n, x, o);
             }
         }
+        Instr::LoadMethod(n) => {
+            if let Some(o) = operand(s) {
+                return load_method(alloc, v, p, s, n, o);
+            }
+        }
         Instr::Next(place) => {
             if let Some(Value::Ref(a)) = operand(s) {
-                return go_on(alloc, v, p, s, place, a);
+                return next_of(alloc, v, p, s, place, a);
+            }
+        }
+        Instr::Call(m, l) => {
+            if let Some(f) = callee(p, s, m as usize, l) {
+                return call(alloc, v, p, s, m, l, f);
+            }
+        }
+        Instr::CallMethod(m, l) => {
+            if let Some(f) = callee(p, s, m as usize + 1, l) {
+                return call_method(alloc, v, p, s, m, l, f);
             }
         }
         _ => (),

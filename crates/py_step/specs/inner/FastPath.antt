@@ -1,0 +1,118 @@
+-- What code and proofs say to each other: nothing public rests on it. Instructions that go by a fast path: a part of
+-- their row, and what it gives. States `docs/LANGUAGE.md`, "Instructions".
+use Rattle.std.specs.Prelude.{ℕ, ◌+◌, List, [], ◌∷◌, drop, Option, Some, None, option_map}
+use Rattle.py_base.specs.declared.kind.Kind.{Kind}
+use Rattle.py_base.specs.declared.kind.Kind.TheVariants.{Iter}
+use Rattle.py_data.specs.declared.change.Change.TheVariants as change
+use Rattle.py_data.specs.declared.value.Value.{Value}
+use Rattle.py_data.specs.declared.record.Got.{Got}
+use Rattle.py_data.specs.declared.record.Got.TheVariants.{Raise}
+use Rattle.py_data.specs.Fault.{operand_fault}
+use Rattle.py_data.specs.Looking.{kind_row, look_row}
+use Rattle.py_data.specs.Row.{Row, Ret, Do, Edit, bind}
+use Rattle.py_code.specs.declared.instr.Instr.{Instr}
+use Rattle.py_code.specs.declared.instr.Instr.TheVariants.{Binary, Compare, InPlace, LoadItem}
+use Rattle.py_code.specs.declared.program.Program.{Program}
+use Rattle.lock_run.specs.declared.client.Outcome.{Outcome}
+use Rattle.obj_builtins.specs.Calls.{call_row}
+use Rattle.obj_class.specs.AttrRows.{attr_row, set_attr_row}
+use Rattle.obj_ops.specs.Binary.{binary_row}
+use Rattle.obj_ops.specs.Compare.{compare_row}
+use Rattle.obj_ops.specs.InPlace.{in_place_row}
+use Rattle.obj_seq.specs.Iter.{next_row}
+use Rattle.py_frames.specs.declared.next.Next.{Next}
+use Rattle.py_frames.specs.declared.next.Next.TheVariants.{Goes, Jumps}
+use Rattle.py_frames.specs.AttrInstrs.{loaded_method}
+use Rattle.py_frames.specs.Binding.{Given, plainly, defaulted_row, numbered_row}
+use Rattle.py_frames.specs.CallRows.{answered, record_call}
+use Rattle.py_frames.specs.ClassCalls.{Site, entered_row}
+use Rattle.py_frames.specs.ItemRows.{item_of}
+use Rattle.py_frames.specs.Raising.{place_in, place_of}
+use Rattle.py_frames.specs.State.{State, operands, settled}
+use Rattle.py_frames.specs.Steps.{site_of}
+use Rattle.py_states.specs.Innermost.{innermost, settled_in}
+
+-- how a step ends whose instruction takes n operands and leads to this
+abbrev pub ending : Program → State → ℕ → Next → Row State (Outcome × State)
+ending p s n next = Ret (settled p s n (innermost s.frames) (drop 1 s.frames) next)
+
+-- what is left of such a step, where this is left of its instruction
+abbrev pub ended : Program → State → ℕ → Row State Next → Row State (Outcome × State)
+ended p s n row = bind row (ending p s n)
+
+-- how a step ends whose one operand is an iterator: its next item is pushed on it, or that place follows
+abbrev pub item_end : Program → State → ℕ → Option Value → Outcome × State
+item_end p s t (Some x) = settled_in p s 0 (Goes (x ∷ [])) s.frames
+item_end p s t None = settled_in p s 1 (Jumps t []) s.frames
+
+-- what the cell of a global name holds, and a change of it
+abbrev pub global_value : {S : Type 0} → ℕ → ℕ → Row S Value
+global_value roots g = bind (look_row roots g) (λ c. look_row (place_in c) 0)
+
+abbrev pub set_global : {S : Type 0} → ℕ → ℕ → Value → Row S (Unit {0})
+set_global roots g x = bind (look_row roots g) (λ c. Do (Edit (place_in c) (change.Set 0 x)) (λ u. Ret u))
+
+-- the next item of an iterator
+abbrev pub item_by : {S : Type 0} → ℕ → Kind → Row S (Got (Option Value))
+item_by a Iter = next_row a
+item_by a _ = Ret (Raise operand_fault)
+
+abbrev pub next_item : {S : Type 0} → ℕ → Row S (Got (Option Value))
+next_item a = bind (kind_row a) (λ k. item_by a k)
+
+-- an attribute, and a change of one, by the number of its name among the roots
+abbrev pub named_attr : {S : Type 0} → ℕ → ℕ → Value → Row S (Got Value)
+named_attr roots n o = bind (look_row roots n) (λ name. attr_row roots o (place_in name))
+
+abbrev pub set_named_attr : {S : Type 0} → ℕ → ℕ → Value → Value → Row S (Got (Unit {0}))
+set_named_attr roots n x o = bind (look_row roots n) (λ name. set_attr_row o (place_in name) x)
+
+-- the instructions that give a value, or raise, over two operands, and what they give
+abbrev pub IsOfTwo : Instr → Type 0
+IsOfTwo LoadItem = Unit {0}
+IsOfTwo (Binary o) = Unit {0}
+IsOfTwo (InPlace o) = Unit {0}
+IsOfTwo (Compare o) = Unit {0}
+IsOfTwo _ = ⊥
+
+abbrev pub got_of_two : {S : Type 0} → ℕ → Instr → Value → Value → Row S (Got Value)
+got_of_two roots LoadItem x y = item_of x y
+got_of_two roots (Binary o) x y = binary_row roots o x y
+got_of_two roots (InPlace o) x y = in_place_row roots o x y
+got_of_two roots (Compare o) x y = compare_row o x y
+got_of_two roots _ x y = Ret (Raise operand_fault)
+
+-- ---- calls without keywords
+
+module _ (p : Program) (s : State) where
+  abbrev pub site : Site
+  site = site_of p s (drop 1 s.frames)
+
+  -- the top n values are the arguments
+  abbrev pub arguments : ℕ → Given
+  arguments n = plainly (operands n (innermost s.frames))
+
+  -- the step that calls a record which stands below n arguments, once its kind is known
+  abbrev pub called_as : ℕ → ℕ → Kind → Row State (Outcome × State)
+  called_as n a k = ended p s (n + 1) (record_call site (arguments n) a k)
+
+  abbrev pub called : ℕ → ℕ → Row State (Outcome × State)
+  called n a = bind (kind_row a) (λ k. called_as n a k)
+
+  -- once the number of the code of a Function is known, and then the place of its defaults
+  abbrev pub called_code : ℕ → ℕ → ℕ → Row State (Outcome × State)
+  called_code n a c = ended p s (n + 1) (bind (numbered_row p (arguments n) a c) (λ x. entered_row site x))
+
+  abbrev pub called_with : ℕ → ℕ → ℕ → Row State (Outcome × State)
+  called_with n c d = ended p s (n + 1) (bind (defaulted_row p (arguments n) c d) (λ x. entered_row site x))
+
+  -- what is left of the step that calls a builtin, and the whole: it takes n operands, of which the top m are the
+  -- arguments
+  abbrev pub called_builtin : ℕ → ℕ → Value → ℕ → Row State (Outcome × State)
+  called_builtin n m own b =
+      bind (call_row (place_of s.roots) (option_map (λ a. a.0) s.thread) b own (operands m (innermost s.frames)) [])
+      (λ g. ended p s n (answered site g))
+
+-- ---- LOAD_METHOD, once the name is known
+abbrev pub method_by : Program → State → Value → ℕ → Row State (Outcome × State)
+method_by p s o name = ended p s 1 (loaded_method (place_of s.roots) o name)
