@@ -1,14 +1,14 @@
 -- Steps of a thread, by the instruction at hand.
 use Rattle.std.proofs.Common.{arith, ◌≡◌, ℕ, ◌<◌, Bool, true, false, List, [], ◌∷◌, length, drop, Option, Some, None, Result, Ok, Err, refl, sym, ap, subst, ◌∙◌}
-use Rattle.std.specs.Prelude.{is_some}
+use Rattle.std.specs.Prelude.{is_some, IfOk, IfErr, OnErr}
 use Rattle.py_data.specs.declared.stop.Stop.{Stop}
 use Rattle.py_data.specs.declared.stop.Stop.TheVariants.{OutOfMemory}
 use Rattle.py_data.specs.Heap.{Heap}
-use Rattle.py_data.specs.Row.{Row, Ret, bind}
-use Rattle.py_data.specs.Sense.{Sense, Safe, Run, Stopped, Meets}
+use Rattle.py_data.specs.Row.{Row, Ret, Do, bind}
+use Rattle.py_data.specs.Sense.{Sense, Lawful, Safe, Run, Stopped, Meets}
 use Rattle.py_data.proofs.Rows.{run_ret, run_bind, own_memory, stop_first, stop_then}
 use Rattle.std.specs.Result.{IsErrAnd}
-use Rattle.py_data.proofs.Steps.{as_err, safe_first}
+use Rattle.py_data.proofs.Steps.{as_err, safe_first, safe_then}
 use Rattle.py_code.specs.declared.instr.Instr.{Instr}
 use Rattle.py_code.specs.declared.program.Program.{Program}
 use Rattle.lock_run.specs.declared.client.Outcome.{Outcome}
@@ -22,6 +22,7 @@ use Rattle.py_frames.specs.Steps.{guarded_row, site_of, step_at, step_by, step_r
 use Rattle.py_states.specs.Innermost.{innermost, settled_in, Settles}
 use Rattle.py_states.proofs.Running.{there_is, settled_there}
 use Rattle.py_step.specs.inner.Directly.{IsAtOnce}
+use Rattle.py_step.specs.inner.FastPath.{ended, ending}
 use Rattle.py_step.specs.inner.Moves.{Moves, dying_step, dying_words}
 use Rattle.py_step.specs.inner.Operators.{HasOperator, IsOperable}
 
@@ -32,10 +33,6 @@ at_of p q f o e at = sym (at ∙ ap (λ r. instr_at r f) e)
 
 pub pops_of : (p q : Program) (f : Frame) (i : Instr) (n : ℕ) → q ≡ p → n ≡ pops q f i → n ≡ pops p f i
 pops_of p q f i n e at = at ∙ ap (λ r. pops r f i) e
-
-pub settles_of : (p q : Program) (s : State) (n : ℕ) (next : Next) (o : Outcome) (t : State) → q ≡ p →
-    Settles (settled_in q s n next s.frames) o t → Settles (settled_in p s n next s.frames) o t
-settles_of p q s n next o t e at = subst (λ r. Settles (settled_in r s n next s.frames) o t) e at
 
 -- ---- a thread that lives has a frame
 
@@ -85,55 +82,75 @@ module _ {X : Type 0} (u : Sense State X) (p : Program) (s : State) where
   unfolding step_at
   over f fs v = run_ret u (Ended, with_frames s []) v
 
-  -- ---- an instruction that takes n operands
-  module _ (f : Frame) (fs : List Frame) (i : Instr) (n : ℕ) (e : n ≡ pops p f i) where
-    abbrev part : Row State Next
-    part = guarded_row (site_of p s fs) f (operands n f) i
+-- ---- one part after another
 
-    abbrev rest : Next → Row State (Outcome × State)
-    rest next = Ret (settled p s n f fs next)
+pub bind_bind : {S A B C : Type 0} (r : Row S A) (f : A → Row S B) (g : B → Row S C) →
+    bind (bind r f) g ≡ bind r (λ a. bind (f a) g)
+unfolding bind
+bind_bind (Ret a) f g = refl
+bind_bind (Do c k) f g = λ i. Do c (λ r. bind_bind (k r) f g i)
 
-    whole : step_at p s f fs (Some i) ≡ bind part rest
-    unfolding step_at
-    whole = ap (λ m. bind (guarded_row (site_of p s fs) f (operands m f) i) (λ next. Ret (settled p s m f fs next)))
-        (sym e)
+-- a row that is this part, and what follows
+module _ {X A : Type 0} (u : Sense State X) (row : Row State (Outcome × State)) (part : Row State A)
+    (more : A → Row State (Outcome × State)) (e : row ≡ bind part more) where
+  pub part_safe : (h : Heap) → Safe u.partial row h → Safe u.partial part h
+  part_safe h z = safe_first u.partial part more h (subst (λ r. Safe u.partial r h) e z)
 
-    pub part_safe : (h : Heap) → Safe u.partial (step_at p s f fs (Some i)) h → Safe u.partial part h
-    part_safe h z = safe_first u.partial part rest h (subst (λ r. Safe u.partial r h) whole z)
+  pub more_safe : (L : Lawful u) (v w : X) (a : A) → Safe u.partial row (u.heap v) → Meets u part v w (Ok a) →
+      Safe u.partial (more a) (u.heap w)
+  more_safe L v w a z m = safe_then u L part more v w a (subst (λ r. Safe u.partial r (u.heap v)) e z) m
 
-    pub stopped_within : (v w : X) (x : Stop) → Meets u part v w (Err x) → Stopped u (step_at p s f fs (Some i)) v x w
-    unfolding Meets
-    stopped_within v w x m = subst (λ r. Stopped u r v x w) (sym whole) (stop_first u part rest v w x m)
+  pub part_moved : (s : State) (v w : X) (x : Stop) (r : Result Outcome Stop) → Meets u part v w (Err x) →
+      IsErrAnd r (λ y. y ≡ x) → Moves u row v s w s r
+  unfolding Meets
+  part_moved s v w x r m q = subst (λ z. Moves u row v s w s z) (sym (as_err r x q))
+      (subst (λ z. Stopped u z v x w) (sym e) (stop_first u part more v w x m), refl)
 
-    pub stopped_behind : (v w : X) (next : Next) → Meets u part v w (Ok next) →
-        Stopped u (step_at p s f fs (Some i)) v OutOfMemory w
-    unfolding Meets
-    stopped_behind v w next m = subst (λ r. Stopped u r v OutOfMemory w) (sym whole)
-        (stop_then u part rest v w w next OutOfMemory m (own_memory u (rest next) w))
+  pub more_moved : (s t : State) (v m w : X) (a : A) (r : Result Outcome Stop) → Meets u part v m (Ok a) →
+      Moves u (more a) m s w t r → Moves u row v s w t r
+  unfolding Meets
+  more_moved s t v m w a (Ok o) h g =
+      subst (λ z. Run u z v (o, t) w) (sym e) (run_bind u part more v m w a (o, t) h g)
+  more_moved s t v m w a (Err x) h g =
+      (subst (λ z. Stopped u z v x w) (sym e) (stop_then u part more v m w a x h g.0), g.1)
 
-    pub part_moved : (v w : X) (x : Stop) (r : Result Outcome Stop) → Meets u part v w (Err x) →
-        IsErrAnd r (λ y. y ≡ x) → Moves u (step_at p s f fs (Some i)) v s w s r
-    part_moved v w x r m q = subst (λ z. Moves u (step_at p s f fs (Some i)) v s w s z) (sym (as_err r x q))
-        (stopped_within v w x m, refl)
+-- the same where the row is written so
+pub as_part : {A : Type 0} (part : Row State A) (more : A → Row State (Outcome × State)) →
+    bind part more ≡ bind part more
+as_part part more = refl
 
-    pub settle_moved : (v w : X) (next : Next) (t : State) (r : Result Outcome Stop) → Meets u part v w (Ok next) →
-        t ≡ s → IsErrAnd r (λ y. y ≡ OutOfMemory) → Moves u (step_at p s f fs (Some i)) v s w t r
-    settle_moved v w next t r m e q = subst (λ z. Moves u (step_at p s f fs (Some i)) v s w t z)
-        (sym (as_err r OutOfMemory q)) (stopped_behind v w next m, e)
+-- ---- what an instruction leads to that takes n operands
+module _ {X : Type 0} (u : Sense State X) (p : Program) (s : State) (n : ℕ) where
+  -- it was done to the state, or there was no memory for it
+  pub settle_moved : (next : Next) (v : X) (t : State) (r : Result Outcome Stop) → 0 < length s.frames →
+      IfOk r (λ o. Settles (settled_in p s n next s.frames) o t) → IfErr r (λ e. e ≡ OutOfMemory) →
+      OnErr r (t ≡ s) → Moves u (ending p s n next) v s v t r
+  settle_moved next v t (Ok o) l h c k =
+      subst (λ z. Run u (ending p s n next) v z v)
+      (sym (h ∙ settled_there p s n next (innermost s.frames) (drop 1 s.frames) (there_is s.frames l)))
+      (run_ret u (settled p s n (innermost s.frames) (drop 1 s.frames) next) v)
+  settle_moved next v t (Err x) l h c k =
+      (subst (λ z. Stopped u (ending p s n next) v z v) (sym c) (own_memory u (ending p s n next) v), k)
 
-    pub settled_so : (v w : X) (next : Next) (z : Outcome × State) → Meets u part v w (Ok next) →
-        z ≡ settled p s n f fs next → Run u (step_at p s f fs (Some i)) v z w
-    unfolding Meets
-    settled_so v w next z m q =
-        subst (λ r. Run u r v z w) (sym whole)
-        (run_bind u part rest v w w next z m
-        (subst (λ y. Run u (rest next) w y w) (sym q) (run_ret u (settled p s n f fs next) w)))
+  -- by a call that knows no program
+  pub give_moved : (next : Next) (v : X) (t : State) (r : Result Outcome Stop) → 0 < length s.frames →
+      IfOk r (λ o. (p : Program) → Settles (settled_in p s n next s.frames) o t) → IfErr r (λ e. e ≡ OutOfMemory) →
+      OnErr r (t ≡ s) → Moves u (ending p s n next) v s v t r
+  give_moved next v t (Ok o) l h c k = settle_moved next v t (Ok o) l (h p) c k
+  give_moved next v t (Err x) l h c k = settle_moved next v t (Err x) l h c k
 
-  -- the state's own frames
-  pub settled_is : (n : ℕ) (next : Next) (o : Outcome) (t : State) → 0 < length s.frames →
-      Settles (settled_in p s n next s.frames) o t
-      → ◌≡◌ {A = Outcome × State} (o, t) (settled p s n (innermost s.frames) (drop 1 s.frames) next)
-  settled_is n next o t l q = q ∙ settled_there p s n next (innermost s.frames) (drop 1 s.frames) (there_is s.frames l)
+-- what is left of its instruction is safe where what is left of the step is
+pub still_safe : (q : Bool) (p : Program) (s : State) (n : ℕ) (row : Row State Next) (h : Heap) →
+    Safe q (ended p s n row) h → Safe q row h
+still_safe q p s n row h z = safe_first q row (ending p s n) h z
+
+-- the step of an instruction by its row
+pub by_row_is : (p : Program) (s : State) (f : Frame) (fs : List Frame) (i : Instr) (n : ℕ) → n ≡ pops p f i →
+    step_at p s f fs (Some i)
+    ≡ bind (guarded_row (site_of p s fs) f (operands n f) i) (λ next. Ret (settled p s n f fs next))
+unfolding step_at
+by_row_is p s f fs i n e =
+    ap (λ m. bind (guarded_row (site_of p s fs) f (operands m f) i) (λ next. Ret (settled p s m f fs next))) (sym e)
 
 -- ---- a thread that dies
 module _ {X : Type 0} (u : Sense State X) (s : State) (d : Dying) where
@@ -163,10 +180,11 @@ module _ {X : Type 0} (u : Sense State X) (s : State) (d : Dying) where
 pub both : (o q : Outcome) (s t : State) → o ≡ q → s ≡ t → ◌≡◌ {A = Outcome × State} (o, s) (q, t)
 both o q s t e f = λ i. (e i, f i)
 
-module _ {X : Type 0} (u : Sense State X) (row other : Row State (Outcome × State)) where
-  pub safe_as : (h : Heap) → row ≡ other → Safe u.partial row h → Safe u.partial other h
-  safe_as h e z = subst (λ r. Safe u.partial r h) e z
+pub safe_as : {X A : Type 0} (u : Sense State X) (row other : Row State A) (h : Heap) → row ≡ other →
+    Safe u.partial row h → Safe u.partial other h
+safe_as u row other h e z = subst (λ r. Safe u.partial r h) e z
 
+module _ {X : Type 0} (u : Sense State X) (row other : Row State (Outcome × State)) where
   pub moves_as : (v w : X) (s t : State) (r : Result Outcome Stop) → row ≡ other → Moves u other v s w t r →
       Moves u row v s w t r
   moves_as v w s t r e z = subst (λ q. Moves u q v s w t r) (sym e) z

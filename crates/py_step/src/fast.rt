@@ -1,12 +1,13 @@
 //! The fast path: instructions that look at the heap or change it, and give their values to the frame at once, without a
 //! large answer (`Next`) on the way. They do their row, as `instrs` would. Calls stand in `calls`.
-ghost use Rattle.std.specs.Prelude.{◌≡◌, ◌≢◌, ◌<◌, [], ◌∷◌, Some, drop, length, IfOk, IfErr, IfSome, OnErr};
+ghost use Rattle.std.specs.Prelude.{◌≡◌, ◌≢◌, ◌<◌, [], ◌∷◌, Some, None, drop, length, IfOk, IfErr, IfSome, OnErr};
 ghost use Rattle.py_data.specs.declared.stop.Stop.TheVariants.{OutOfMemory};
 ghost use Rattle.py_data.specs.declared.value.Value.TheVariants.{Ref, Unset};
 ghost use Rattle.py_data.specs.Sense.{Meets, Safe, IsLive};
-ghost use Rattle.py_code.specs.declared.instr.Instr.TheVariants.{LoadAttr, LoadGlobal, LoadItem, Next, StoreAttr, StoreItem};
+ghost use Rattle.py_code.specs.declared.instr.Instr.TheVariants.{LoadAttr, LoadGlobal, LoadItem, LoadMethod, Next, StoreAttr, StoreGlobal, StoreItem};
 ghost use Rattle.py_code.specs.declared.program.Program.{Program as Prog};
 ghost use Rattle.py_frames.specs.declared.next.Next.TheVariants.{Goes, Jumps};
+ghost use Rattle.py_frames.specs.AttrInstrs.{found_method};
 ghost use Rattle.py_frames.specs.BuildRows as builds;
 ghost use Rattle.py_frames.specs.GlobalRows as globals;
 ghost use Rattle.py_frames.specs.Raising as raising;
@@ -15,16 +16,15 @@ ghost use Rattle.py_frames.specs.Steps as steps;
 ghost use Rattle.py_states.specs.Innermost.{innermost, settled_in, Settles};
 ghost use Rattle.py_step.specs.inner.Moves.{Moves};
 ghost use Rattle.py_step.specs.inner.Operators.{HasOperator};
-ghost use Rattle.py_step.specs.inner.FastPath.{ended, global_value, got_of_two, item_by, item_end, method_by, named_attr, next_item, set_global, set_named_attr, IsOfTwo};
+ghost use Rattle.py_step.specs.inner.FastPath.{ended, global_value, found_values, item_by, item_end, method_by, named_attr, next_item, set_cell, set_global, set_named_attr};
 
-use crate::calls::{call, call_method, callee};
+use crate::calls::{call, call_method, find_callee};
 use crate::ends::{done, give_none, give_one, give_two, given, jump, raised, settle};
 use crate::place::place_of;
 use crate::prepared::Prepared;
 use crate::step::go_by_row;
 use lock_run::Outcome;
 use obj_class::{Found, attr, find_attr, set_attr};
-use obj_ops::{binary, compare, in_place};
 use obj_seq::next;
 use py_code::Instr;
 use py_data::{Addr, Got, Kind, Stop, Value, View, kind, look};
@@ -79,15 +79,25 @@ fn global_value<S, V: View<S>>(v: &mut V, roots: Addr, g: u32) -> Result<Value, 
     look(v, place_in(cell), 0)
 }
 
+/// A value in a cell.
+#[tactic(auto, using(py_data::proofs::Rows::change_steps))]
+fn set_cell<S, V: View<S>>(v: &mut V, a: Addr, x: Value) -> Result<(), Stop>
+    requires live { IsLive V.sense v.old }
+    requires safe { Safe V.sense.partial (set_cell {S = S} a.0 x) (V.sense.heap v.old) }
+    ensures { Meets V.sense (set_cell a.0 x) v.old v.new result }
+{
+    v.set_val(a, 0, x)
+}
+
 /// A value in the cell of a global name, by its number among the roots.
-#[tactic(auto, using(py_data::proofs::Rows::change_steps, py_data::proofs::Steps::call_steps))]
+#[tactic(auto, using(py_data::proofs::Rows::row_steps, py_data::proofs::Steps::call_steps))]
 fn set_global<S, V: View<S>>(v: &mut V, roots: Addr, g: u32, x: Value) -> Result<(), Stop>
     requires live { IsLive V.sense v.old }
     requires safe { Safe V.sense.partial (set_global {S = S} roots.0 g x) (V.sense.heap v.old) }
     ensures { Meets V.sense (set_global roots.0 g x) v.old v.new result }
 {
     let cell = look(v, roots, g as usize)?;
-    v.set_val(place_in(cell), 0, x)
+    set_cell(v, place_in(cell), x)
 }
 
 /// An attribute, by the number of its name among the roots.
@@ -259,52 +269,25 @@ fn load_global<V: View<ThreadState>>(
     bound(alloc, v, p, s, g, x)
 }
 
-/// What an instruction gives that takes two operands and gives one value: LOAD_ITEM, BINARY, IN_PLACE and COMPARE.
-#[tactic(auto, using(py_data::proofs::Rows::row_steps))]
-fn got_of_two<S, V: View<S>>(
-    alloc: Global,
-    v: &mut V,
-    roots: Addr,
-    i: Instr,
-    x: Value,
-    y: Value,
-) -> Result<Got<Value>, Stop>
-    requires operator { HasOperator i }
-    requires live { IsLive V.sense v.old }
-    requires safe { Safe V.sense.partial (got_of_two {S = S} roots.0 i x y) (V.sense.heap v.old) }
-    ensures { Meets V.sense (got_of_two roots.0 i x y) v.old v.new result }
-{
-    match i {
-        Instr::LoadItem => item_of(alloc, v, x, y),
-        Instr::Binary(o) => binary(alloc, v, roots, o, x, y),
-        Instr::InPlace(o) => in_place(alloc, v, roots, o, x, y),
-        Instr::Compare(o) => compare(alloc, v, o, x, y),
-        _ => Ok(Got::Raise(operand_fault(alloc)?)),
-    }
-}
-
-/// LOAD_ITEM, BINARY, IN_PLACE and COMPARE of two operands.
-fn give_of_two<V: View<ThreadState>>(
+/// LOAD_ITEM of an object by an index or a key.
+fn load_item<V: View<ThreadState>>(
     alloc: Global,
     v: &mut V,
     p: &Prepared,
     s: &mut ThreadState,
-    i: Instr,
-    x: Value,
-    y: Value,
+    o: Value,
+    i: Value,
 ) -> Result<Outcome, Stop>
     requires some { 0 < length s.old.frames }
-    requires operator { HasOperator i }
-    requires of_two { IsOfTwo i }
-    requires operands { state.operands 2 (innermost s.old.frames) ≡ x ∷ y ∷ [] }
-    requires set { (x ≢ Unset) × (y ≢ Unset) }
+    requires operands { state.operands 2 (innermost s.old.frames) ≡ o ∷ i ∷ [] }
+    requires set { (o ≢ Unset) × (i ≢ Unset) }
     requires live { IsLive V.sense v.old }
     requires safe { Safe V.sense.partial (steps.step_at p.now s.old (innermost s.old.frames) (drop 1 s.old.frames)
-        (Some i)) (V.sense.heap v.old) }
-    ensures { Moves V.sense (steps.step_at p.now s.old (innermost s.old.frames) (drop 1 s.old.frames) (Some i))
+        (Some LoadItem)) (V.sense.heap v.old) }
+    ensures { Moves V.sense (steps.step_at p.now s.old (innermost s.old.frames) (drop 1 s.old.frames) (Some LoadItem))
         v.old s.old v.new s.new result }
 {
-    let got = got_of_two(alloc, v, place_of(s.roots()), i, x, y)?;
+    let got = item_of(alloc, v, o, i)?;
     given(alloc, v, p, s, 2, got)
 }
 
@@ -398,7 +381,22 @@ fn no_method<V: View<ThreadState>>(
     settle(p, s, 1, next)
 }
 
-/// What was found is pushed: what is bound and its object, or any other attribute and nothing; or it raises.
+/// What was found is pushed in the place of the one operand: what is bound and its object, or any other attribute and
+/// nothing.
+fn give_found(s: &mut ThreadState, o: Value, found: Found) -> Result<Outcome, Stop>
+    requires some { 0 < length s.old.frames }
+    ensures ok { IfOk result (λ r. (p : Prog) →
+        Settles (settled_in p s.old 1 (Goes (found_values o found)) s.old.frames) r s.new) }
+    ensures cause { IfErr result (λ e. e ≡ OutOfMemory) }
+    ensures err { OnErr result (s.new ≡ s.old) }
+{
+    match found {
+        Found::Plain(x) => give_two(s, 1, x, Value::Unset),
+        Found::Bound(f) => give_two(s, 1, f, o),
+    }
+}
+
+/// What was found is pushed, or it raises.
 fn found_method<V: View<ThreadState>>(
     alloc: Global,
     v: &mut V,
@@ -416,8 +414,7 @@ fn found_method<V: View<ThreadState>>(
         v.old s.old v.new s.new result }
 {
     match found {
-        Some(Found::Plain(x)) => give_two(s, 1, x, Value::Unset),
-        Some(Found::Bound(f)) => give_two(s, 1, f, o),
+        Some(found) => give_found(s, o, found),
         None => no_method(alloc, v, p, s, o, name),
     }
 }
@@ -479,7 +476,7 @@ fn store_global<V: View<ThreadState>>(
     ensures { Moves V.sense (steps.step_at p.now s.old (innermost s.old.frames) (drop 1 s.old.frames)
         (Some (StoreGlobal g))) v.old s.old v.new s.new result }
 {
-    set_global(v, place_of(s.roots()), g, x)?;
+    let _set = set_global(v, place_of(s.roots()), g, x)?;
     give_none(s, 1)
 }
 
@@ -528,9 +525,9 @@ pub fn go<V: View<ThreadState>>(
                 return store_global(v, p, s, g, x);
             }
         }
-        Instr::LoadItem | Instr::Binary(_) | Instr::InPlace(_) | Instr::Compare(_) => {
-            if let Some((x, y)) = two_operands(s) {
-                return give_of_two(alloc, v, p, s, i, x, y);
+        Instr::LoadItem => {
+            if let Some((o, key)) = two_operands(s) {
+                return load_item(alloc, v, p, s, o, key);
             }
         }
         Instr::StoreItem => {
@@ -559,12 +556,12 @@ pub fn go<V: View<ThreadState>>(
             }
         }
         Instr::Call(m, l) => {
-            if let Some(f) = callee(p, s, m as usize, l) {
+            if let Some(f) = find_callee(p, s, m as usize, l) {
                 return call(alloc, v, p, s, m, l, f);
             }
         }
         Instr::CallMethod(m, l) => {
-            if let Some(f) = callee(p, s, m as usize + 1, l) {
+            if let Some(f) = find_callee(p, s, m as usize + 1, l) {
                 return call_method(alloc, v, p, s, m, l, f);
             }
         }

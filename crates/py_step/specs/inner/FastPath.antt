@@ -1,36 +1,36 @@
 -- What code and proofs say to each other: nothing public rests on it. Instructions that go by a fast path: a part of
 -- their row, and what it gives. States `docs/LANGUAGE.md`, "Instructions".
-use Rattle.std.specs.Prelude.{ℕ, ◌+◌, List, [], ◌∷◌, drop, Option, Some, None, option_map}
+use Rattle.std.specs.Prelude.{◌≡◌, ℕ, ◌+◌, false, List, [], ◌∷◌, length, get_or, drop, Option, Some, None, option_map}
 use Rattle.py_base.specs.declared.kind.Kind.{Kind}
 use Rattle.py_base.specs.declared.kind.Kind.TheVariants.{Iter}
 use Rattle.py_data.specs.declared.change.Change.TheVariants as change
 use Rattle.py_data.specs.declared.value.Value.{Value}
+use Rattle.py_data.specs.declared.value.Value.TheVariants.{Unset, Ref, Builtin as BuiltinValue}
 use Rattle.py_data.specs.declared.record.Got.{Got}
 use Rattle.py_data.specs.declared.record.Got.TheVariants.{Raise}
 use Rattle.py_data.specs.Fault.{operand_fault}
 use Rattle.py_data.specs.Looking.{kind_row, look_row}
 use Rattle.py_data.specs.Row.{Row, Ret, Do, Edit, bind}
-use Rattle.py_code.specs.declared.instr.Instr.{Instr}
-use Rattle.py_code.specs.declared.instr.Instr.TheVariants.{Binary, Compare, InPlace, LoadItem}
 use Rattle.py_code.specs.declared.program.Program.{Program}
 use Rattle.lock_run.specs.declared.client.Outcome.{Outcome}
 use Rattle.obj_builtins.specs.Calls.{call_row}
+use Rattle.obj_class.specs.declared.lookup.Found.{Found}
+use Rattle.obj_class.specs.declared.lookup.Found.TheVariants.{Plain, Bound}
 use Rattle.obj_class.specs.AttrRows.{attr_row, set_attr_row}
-use Rattle.obj_ops.specs.Binary.{binary_row}
-use Rattle.obj_ops.specs.Compare.{compare_row}
-use Rattle.obj_ops.specs.InPlace.{in_place_row}
 use Rattle.obj_seq.specs.Iter.{next_row}
+use Rattle.obj_threads.specs.declared.answer.Answer.{Answer}
 use Rattle.py_frames.specs.declared.next.Next.{Next}
 use Rattle.py_frames.specs.declared.next.Next.TheVariants.{Goes, Jumps}
 use Rattle.py_frames.specs.AttrInstrs.{loaded_method}
 use Rattle.py_frames.specs.Binding.{Given, plainly, defaulted_row, numbered_row}
 use Rattle.py_frames.specs.CallRows.{answered, record_call}
 use Rattle.py_frames.specs.ClassCalls.{Site, entered_row}
-use Rattle.py_frames.specs.ItemRows.{item_of}
-use Rattle.py_frames.specs.Raising.{place_in, place_of}
-use Rattle.py_frames.specs.State.{State, operands, settled}
-use Rattle.py_frames.specs.Steps.{site_of}
+use Rattle.py_frames.specs.Raising.{count_in, place_in, place_of}
+use Rattle.py_frames.specs.State.{State, code_at, operands, settled}
+use Rattle.py_frames.specs.Steps.{has_unset, site_of}
 use Rattle.py_states.specs.Innermost.{innermost, settled_in}
+use Rattle.py_step.specs.declared.calls.Callee.{Callee}
+use Rattle.py_step.specs.declared.calls.Callee.TheVariants.{Record, Builtin}
 
 -- how a step ends whose instruction takes n operands and leads to this
 abbrev pub ending : Program → State → ℕ → Next → Row State (Outcome × State)
@@ -49,8 +49,11 @@ item_end p s t None = settled_in p s 1 (Jumps t []) s.frames
 abbrev pub global_value : {S : Type 0} → ℕ → ℕ → Row S Value
 global_value roots g = bind (look_row roots g) (λ c. look_row (place_in c) 0)
 
+abbrev pub set_cell : {S : Type 0} → ℕ → Value → Row S (Unit {0})
+set_cell a x = Do (Edit a (change.Set 0 x)) (λ u. Ret u)
+
 abbrev pub set_global : {S : Type 0} → ℕ → ℕ → Value → Row S (Unit {0})
-set_global roots g x = bind (look_row roots g) (λ c. Do (Edit (place_in c) (change.Set 0 x)) (λ u. Ret u))
+set_global roots g x = bind (look_row roots g) (λ c. set_cell (place_in c) x)
 
 -- the next item of an iterator
 abbrev pub item_by : {S : Type 0} → ℕ → Kind → Row S (Got (Option Value))
@@ -67,52 +70,68 @@ named_attr roots n o = bind (look_row roots n) (λ name. attr_row roots o (place
 abbrev pub set_named_attr : {S : Type 0} → ℕ → ℕ → Value → Value → Row S (Got (Unit {0}))
 set_named_attr roots n x o = bind (look_row roots n) (λ name. set_attr_row o (place_in name) x)
 
--- the instructions that give a value, or raise, over two operands, and what they give
-abbrev pub IsOfTwo : Instr → Type 0
-IsOfTwo LoadItem = Unit {0}
-IsOfTwo (Binary o) = Unit {0}
-IsOfTwo (InPlace o) = Unit {0}
-IsOfTwo (Compare o) = Unit {0}
-IsOfTwo _ = ⊥
-
-abbrev pub got_of_two : {S : Type 0} → ℕ → Instr → Value → Value → Row S (Got Value)
-got_of_two roots LoadItem x y = item_of x y
-got_of_two roots (Binary o) x y = binary_row roots o x y
-got_of_two roots (InPlace o) x y = in_place_row roots o x y
-got_of_two roots (Compare o) x y = compare_row o x y
-got_of_two roots _ x y = Ret (Raise operand_fault)
-
 -- ---- calls without keywords
 
+-- the top n values are the arguments
+abbrev pub arguments : State → ℕ → Given
+arguments s n = plainly (operands n (innermost s.frames))
+
+-- the number of a Function's code
+abbrev pub code_row : {S : Type 0} → ℕ → Row S ℕ
+code_row a = bind (look_row a 1) (λ x. Ret (count_in x))
+
+-- what a builtin answers, of which the top m values are the arguments
+abbrev pub builtin_row : {S : Type 0} → State → ℕ → Value → ℕ → Row S (Got Answer)
+builtin_row s m own b =
+    call_row (place_of s.roots) (option_map (λ a. a.0) s.thread) b own (operands m (innermost s.frames)) []
+
+-- where the thread stands
+abbrev pub site : Program → State → Site
+site p s = site_of p s (drop 1 s.frames)
+
+-- the call of a function of this code, with the defaults at that address
+abbrev pub function_row : {S : Type 0} → Program → State → ℕ → ℕ → ℕ → Row S Next
+function_row p s n c d = bind (defaulted_row p (arguments s n) c d) (λ x. entered_row (site p s) x)
+
 module _ (p : Program) (s : State) where
-  abbrev pub site : Site
-  site = site_of p s (drop 1 s.frames)
-
-  -- the top n values are the arguments
-  abbrev pub arguments : ℕ → Given
-  arguments n = plainly (operands n (innermost s.frames))
-
-  -- the step that calls a record which stands below n arguments, once its kind is known
+  -- the step that calls a record which stands below n arguments, and the same once its kind is known
   abbrev pub called_as : ℕ → ℕ → Kind → Row State (Outcome × State)
-  called_as n a k = ended p s (n + 1) (record_call site (arguments n) a k)
+  called_as n a k = ended p s (n + 1) (record_call (site p s) (arguments s n) a k)
 
   abbrev pub called : ℕ → ℕ → Row State (Outcome × State)
   called n a = bind (kind_row a) (λ k. called_as n a k)
 
-  -- once the number of the code of a Function is known, and then the place of its defaults
+  -- of a Function, once the number of its code is known, and then the place of its defaults
   abbrev pub called_code : ℕ → ℕ → ℕ → Row State (Outcome × State)
-  called_code n a c = ended p s (n + 1) (bind (numbered_row p (arguments n) a c) (λ x. entered_row site x))
+  called_code n a c = ended p s (n + 1) (bind (numbered_row p (arguments s n) a c) (λ x. entered_row (site p s) x))
 
   abbrev pub called_with : ℕ → ℕ → ℕ → Row State (Outcome × State)
-  called_with n c d = ended p s (n + 1) (bind (defaulted_row p (arguments n) c d) (λ x. entered_row site x))
+  called_with n c d = ended p s (n + 1) (function_row p s n c d)
 
-  -- what is left of the step that calls a builtin, and the whole: it takes n operands, of which the top m are the
-  -- arguments
+  -- the step that calls a builtin: it takes n operands, of which the top m are the arguments
   abbrev pub called_builtin : ℕ → ℕ → Value → ℕ → Row State (Outcome × State)
-  called_builtin n m own b =
-      bind (call_row (place_of s.roots) (option_map (λ a. a.0) s.thread) b own (operands m (innermost s.frames)) [])
-      (λ g. ended p s n (answered site g))
+  called_builtin n m own b = bind (builtin_row s m own b) (λ g. ended p s n (answered (site p s) g))
 
--- ---- LOAD_METHOD, once the name is known
+-- ---- what is called
+
+abbrev pub value_of : Callee → Value
+value_of (Record a) = Ref a
+value_of (Builtin b) = BuiltinValue b
+
+-- it stands below the top n values, which hold something, and no keyword of the list l is passed
+pub record IsCallee (p : Program) (s : State) (n l : ℕ) (f : Callee) : Type 0 where
+  pub keyless : get_or (code_at p (innermost s.frames).code).keys l [] ≡ []
+  pub below : operands (n + 1) (innermost s.frames) ≡ value_of f ∷ operands n (innermost s.frames)
+  pub set : has_unset (operands n (innermost s.frames)) ≡ false
+  pub count : length (operands n (innermost s.frames)) ≡ n
+
+-- ---- LOAD_METHOD
+
+-- what was found: what is bound and its object, or any other attribute and nothing
+abbrev pub found_values : Value → Found → List Value
+found_values o (Plain x) = x ∷ Unset ∷ []
+found_values o (Bound f) = f ∷ o ∷ []
+
+-- the step, once the name is known
 abbrev pub method_by : Program → State → Value → ℕ → Row State (Outcome × State)
 method_by p s o name = ended p s 1 (loaded_method (place_of s.roots) o name)
