@@ -1,4 +1,4 @@
-use Rattle.std.proofs.Common.{ap, ◌∙◌, Some}
+use Rattle.std.proofs.Common.{ap, ◌∙◌}
 use Rattle.py_frames.specs.AttrInstrs.{found_method}
 use Rattle.py_frames.specs.Raising as raising
 use Rattle.py_step.proofs.FastPaths.{found_is}

@@ -8,12 +8,16 @@ use Rattle.py_step.proofs.fast.load_method.Goals as goal
 
 pub look-requires-clause-safe : goal.look-requires-clause-safe
 look-requires-clause-safe g c =
-    let law = load_method_is c.args.p.now c.args.s.now _ (c.place_of.ensures ∙ ap raising.place_of c.roots.ensures) c.args.n c.args.o c.requires.operands c.requires.set in
+    let law = load_method_is c.args.p.now c.args.s.now _
+    (c.place_of.ensures ∙ ap raising.place_of c.roots.ensures)
+    c.args.n c.args.o c.requires.operands c.requires.set in
     part_safe g.V.View.sense _ _ _ law _ c.requires.safe
 
 pub returns-in_err-name : goal.returns-in_err-name
 returns-in_err-name g c =
-    let law = load_method_is c.args.p.now c.args.s.now _ (c.place_of.ensures ∙ ap raising.place_of c.roots.ensures) c.args.n c.args.o c.requires.operands c.requires.set in
+    let law = load_method_is c.args.p.now c.args.s.now _
+    (c.place_of.ensures ∙ ap raising.place_of c.roots.ensures)
+    c.args.n c.args.o c.requires.operands c.requires.set in
     part_moved g.V.View.sense _ _ _ law c.args.s.now _ _ _ _ c.in_err-name.ensures c.from_residual.ensures.1
 
 pub method_by-requires-clause-live : goal.method_by-requires-clause-live
@@ -22,12 +26,16 @@ method_by-requires-clause-live g c =
 
 pub method_by-requires-clause-safe : goal.method_by-requires-clause-safe
 method_by-requires-clause-safe g c =
-    let law = load_method_is c.args.p.now c.args.s.now _ (c.place_of.ensures ∙ ap raising.place_of c.roots.ensures) c.args.n c.args.o c.requires.operands c.requires.set in
+    let law = load_method_is c.args.p.now c.args.s.now _
+    (c.place_of.ensures ∙ ap raising.place_of c.roots.ensures)
+    c.args.n c.args.o c.requires.operands c.requires.set in
     safe_as g.V.View.sense _ _ _ (ap (method_by c.args.p.now c.args.s.now c.args.o) (sym c.place_in.ensures))
     (more_safe g.V.View.sense _ _ _ law g.met.V.View.lawful _ _ _ c.requires.safe c.in_ok-name.ensures)
 
 pub returns : goal.returns
 returns g c =
-    let law = load_method_is c.args.p.now c.args.s.now _ (c.place_of.ensures ∙ ap raising.place_of c.roots.ensures) c.args.n c.args.o c.requires.operands c.requires.set in
+    let law = load_method_is c.args.p.now c.args.s.now _
+    (c.place_of.ensures ∙ ap raising.place_of c.roots.ensures)
+    c.args.n c.args.o c.requires.operands c.requires.set in
     more_moved g.V.View.sense _ _ _ law c.args.s.now _ _ _ _ _ _ c.in_ok-name.ensures
     (moves_as g.V.View.sense _ _ _ _ _ _ _ (ap (method_by c.args.p.now c.args.s.now c.args.o) (sym c.place_in.ensures)) c.method_by.ensures)
