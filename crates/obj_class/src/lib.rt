@@ -21,6 +21,7 @@ pub use inheritance::{held, inherited};
 pub use laws::{attribute_law, below_law, holds_law, own_law, roots_law, telling_law};
 pub use lookup::{Found, find_attr};
 pub use making::{make_record, make_text, one, three, two};
+pub use named::method_of;
 pub use own::{del_attr, set_attr};
 pub use roots::{make_roots, own_name, root_base};
 pub use telling::text;

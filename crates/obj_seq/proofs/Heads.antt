@@ -1,12 +1,9 @@
 -- What one look at a record tells of it, and what an iterator over it comes to.
-use Rattle.std.proofs.Common.{◌≡◌, ℕ, ◌<◌, ◌≤◌, ◌*◌, ◌/◌, ◌==◌, Bool, true, false, cond, not, List, [], ◌∷◌, length, slice_get, ◌⊎◌, Option, Some, None, inl, inr, refl, sym, ap, subst, ◌∙◌}
+use Rattle.std.proofs.Common.{◌≡◌, ◌≢◌, ℕ, zero, suc, ◌==◌, Bool, true, false, cond, List, [], ◌∷◌, length, slice_get, Option, Some, None, refl, sym, ap, ◌∙◌}
 use native.Mathlib.Omega.{arith}
-use Rattle.std.proofs.lemmas.Bool.{cond-false, eq-eqb, ne_eqb}
-use Rattle.std.proofs.lemmas.Option.{slice_get-get_or, slice_get_past}
-use Rattle.py_base.specs.declared.kind.Kind.TheVariants.{Tuple, List as ListKind, Dict}
+use Rattle.std.proofs.lemmas.Bool.{cond-false, ne_eqb}
 use Rattle.py_data.specs.declared.value.Value.{Value}
 use Rattle.py_data.specs.declared.value.Value.TheVariants.{Unset}
-use Rattle.py_data.specs.declared.record.Head.{Head}
 use Rattle.py_data.specs.declared.record.Got.TheVariants.{Raise}
 use Rattle.py_data.specs.Fault.{size_fault}
 use Rattle.py_data.specs.Heap.{Rec, at, value_at}
@@ -32,40 +29,11 @@ three_of_head r = of_values r.values where
   of_values (x ∷ y ∷ z ∷ []) = refl
   of_values (x ∷ y ∷ z ∷ w ∷ more) = cond-false _ _ _ (ne_eqb (length (x ∷ y ∷ z ∷ w ∷ more)) 3 (omega arith))
 
--- what is ahead in a list or a tuple, and in a dictionary that has so many pairs still
-module _ {h : Head} (r : Rec) (place count : ℕ) (is : h ≡ head_of r) where
-  same_kind : r.kind ≡ h.kind
-  same_kind = sym (ap (λ z. z.kind) is)
-
-  pub ahead_item : (h.kind ≡ ListKind) ⊎ (h.kind ≡ Tuple) →
-      ahead_of r.kind r.values place count ≡ Item (slice_get r.values place)
-  ahead_item e = elim e [
-    | inl l ↦ ap (λ z. ahead_of z r.values place count) (same_kind ∙ l)
-    | inr t ↦ ap (λ z. ahead_of z r.values place count) (same_kind ∙ t)
-  ]
-
-  pub ahead_key : h.kind ≡ Dict → h.count / 2 ≡ count →
-      ahead_of r.kind r.values place count ≡ Item (slice_get r.values (2 * place))
-  ahead_key e f =
-      ap (λ z. ahead_of z r.values place count) (same_kind ∙ e) ∙
-      cond-false (not (length r.values / 2 == count)) Changed (Item (slice_get r.values (2 * place)))
-      (ap not (eq-eqb (length r.values / 2) count (subst (λ z. z.count / 2 ≡ count) is f)))
-
--- the value at a place, by a second look
-module _ {S X : Type 0} {u : Sense S X} (L : Lawful u) {a : ℕ} {v m : X} {h : Head}
-    (looked : u.does (Read a) v (at (u.heap v) a) m) (is : h ≡ head_of (at (u.heap v) a)) (i : ℕ) where
-  pub item_there : {x : X} {q : Rec} (y : Value) → u.does (Read a) m q x → y ≡ value_at (at (u.heap m) a).values i →
-      i < h.count → u.does (Read a) v (at (u.heap v) a) x
-      × (Item (Some y) ≡ Item (slice_get (at (u.heap v) a).values i))
-  item_there {x = x} {q = q} y d e less =
-      let less1 : i < length (at (u.heap v) a).values = subst (λ z. i < z.count) is less in (
-        subst (λ z. u.does (Read a) v (at (u.heap v) a) z) (sym (again L a v m x (at (u.heap v) a) q looked d)) looked,
-        ap (λ z. Item (Some z)) (e ∙ ap (λ r. value_at r.values i) (looked_record L looked refl)) ∙
-            ap Item (sym (slice_get-get_or (at (u.heap v) a).values i Unset less1)),
-      )
-
-  pub item_past : h.count ≤ i → Item None ≡ Item (slice_get (at (u.heap v) a).values i)
-  item_past le = ap Item (sym (slice_get_past (at (u.heap v) a).values i (subst (λ z. z.count ≤ i) is le)))
+-- a value that holds something tells that its place is there
+pub set_item : (vs : List Value) (i : ℕ) (x : Value) → x ≡ value_at vs i → x ≢ Unset → Some x ≡ slice_get vs i
+set_item [] i x e n = absurd (n e)
+set_item (y ∷ ys) zero x e n = ap Some e
+set_item (y ∷ ys) (suc i) x e n = set_item ys i x e n
 
 -- an iterator's step, by what the look tells
 by_tests : {S : Type 0} (it at : ℕ) (byte : Option ℕ) (x : Option Value) (s c : Bool) →

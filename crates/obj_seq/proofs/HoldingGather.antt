@@ -31,7 +31,7 @@ use Rattle.obj_seq.specs.declared.span.Span.{Span}
 use Rattle.obj_seq.specs.Iter.{next_row, span_of}
 use Rattle.obj_seq.specs.Gather.{keys_of, letters_row, numbers, numbers_row, taken, take_row, left_row, gather_as, gather_of, gather_row}
 use Rattle.obj_seq.specs.HoldsLaws.{IsIterAt, AreItems, SeqHolds}
-use Rattle.obj_seq.proofs.HoldingIters.{make_iter_holds, next_holds}
+use Rattle.obj_seq.proofs.HoldingIters.{iter_item, make_iter_holds, next_holds}
 use Rattle.obj_seq.proofs.Holding.{cond_holds, item_holds, set_item_holds, del_item_holds, pop_holds, insert_holds, reverse_holds, slice_holds}
 pub use Rattle.obj_seq.proofs.SteadyRows.{gather_steady}
 
@@ -104,7 +104,7 @@ module _ {S : Type 0} (rules : Rules) (stands : Heap → S → Type 0) where
       length xs ≤ LENGTH_LIMIT → Holds {S = S} rules stands (Took (length xs)) (take_row it xs) h
   take_holds it xs h order k i l =
       holds_bind rules stands (IsGot IfItem) (Took (length xs)) (next_row it) (λ g. Ret (taken xs g)) h order
-      (next_holds rules stands h it order k)
+      (next_holds rules stands h it order (iter_item h it k))
       (λ g h1 order1 x f. holds_ret rules stands (Took (length xs)) (taken xs g) h1
       (took h1 xs g (items_stay h h1 x xs i) l f))
 

@@ -1,5 +1,5 @@
 -- Over each heap in order iterators are made and go on.
-use Rattle.std.proofs.Common.{arith, ◌≡◌, ◌≢◌, ℕ, zero, suc, ◌+◌, ◌*◌, ◌<◌, Bool, true, false, cond, ltb, pos, List, [], ◌∷◌, length, slice_get, Option, Some, None, refl, sym, ap, subst, ◌∙◌, lit<}
+use Rattle.std.proofs.Common.{arith, ◌≡◌, ◌≢◌, ℕ, zero, suc, ◌+◌, ◌*◌, ◌<◌, Bool, true, false, cond, ltb, pos, List, [], ◌∷◌, length, slice_get, ◌⊎◌, inl, inr, Option, Some, None, refl, sym, ap, subst, ◌∙◌, lit<}
 use Rattle.std.specs.Prelude.{is_some, IfSome}
 use Rattle.py_base.specs.declared.kind.Kind.{Kind}
 use Rattle.py_base.specs.declared.kind.Kind.TheVariants.{Str, Tuple, List as ListKind, Dict, Cell, Function, Class, Iter, Range}
@@ -9,7 +9,7 @@ use Rattle.py_data.specs.declared.change.Change.TheVariants as change
 use Rattle.py_data.specs.declared.record.Got.{Got}
 use Rattle.py_data.specs.declared.record.Got.TheVariants.{Is, Raise}
 use Rattle.py_data.specs.Every.{Every}
-use Rattle.py_data.specs.Fault.{iterable_fault, size_fault}
+use Rattle.py_data.specs.Fault.{iterable_fault, operand_fault, size_fault}
 use Rattle.py_data.specs.Heap.{Rec, Heap, is_tracked, new_rec}
 use Rattle.py_data.specs.Shape.{KindIn, IsCount, is_iterable, IsIterable, HasShape}
 use Rattle.py_data.specs.Changes.{IsValuePlace}
@@ -27,7 +27,7 @@ use Rattle.py_data.proofs.Steps.{put_here}
 use Rattle.obj_seq.specs.declared.advance.Parts.{Parts}
 use Rattle.obj_seq.specs.declared.span.Span.{Span}
 use Rattle.py_data.specs.Range.{range_length, range_item}
-use Rattle.obj_seq.specs.Iter.{iter_row, iter_of, count_of, is_iter, iter_values, make_iter_row, go_or_end, byte_or_end, number_in, pick, has_changed, is_str, next_over, next_with, next_row, parts_of, span_of}
+use Rattle.obj_seq.specs.Iter.{iter_row, iter_of, count_of, is_iter, iter_values, make_iter_row, go_or_end, byte_or_end, number_in, pick, has_changed, is_str, iter_parts, next_over, next_by, next_with, next_row, parts_of, span_of}
 use Rattle.obj_seq.specs.HoldsLaws.{IsIterAt, IsIterator}
 use Rattle.obj_seq.proofs.IterFaults.{iter_kind}
 use Rattle.obj_seq.proofs.Holding.{at_of, cond_holds}
@@ -44,6 +44,16 @@ counted _ vs bs n e = absurd (let z : ◌≡◌ {A = Option ℕ} None (Some n) =
 
 iterable_set : (k : Kind) → is_iterable k ≡ true → k ≢ Cell
 iterable_set k i e = let z : false ≡ true = sym (ap is_iterable e) ∙ i in cc
+
+-- a record is an iterator, or says no parts
+kind_iter : (k : Kind) → (k ≡ Iter) ⊎ ((vs : List Value) → iter_parts k vs ≡ None)
+kind_iter Iter = inl refl
+kind_iter _ = inr (λ vs. refl)
+
+-- an iterator is a value that may be an item
+pub iter_item : (h : Heap) (it : ℕ) → IsIterAt h it → IsItem h (Ref (record { 0 = it }))
+iter_item h it k = let t = at_of h it (λ k. k ≡ Iter) k in
+    (ap is_some t.here, λ e. let z : Ref (record { 0 = it }) ≡ Unset = e in cc)
 
 -- ---- what an iterator has in hand
 record Parted (h : Heap) (vs : List Value) : Type 0 where
@@ -184,11 +194,33 @@ module _ {S : Type 0} (rules : Rules) (stands : Heap → S → Type 0) where
       (over_holds it p.at p.count t.rec h order k
       (fit_items rules h p.over.0 t.rec (order.each p.over.0 t.rec t.here) (iterable_set t.rec.kind t.kind)))
 
-  pub next_holds : (h : Heap) (it : ℕ) → IsOrdered rules h → IsIterAt h it →
+  by_holds : (it : ℕ) (o : Option (Option Parts)) (p : Parts) (h : Heap) → o ≡ Some (Some p) →
+      Holds rules stands (IsGot IfItem) (next_with it (Some p)) h → Holds rules stands (IsGot IfItem) (next_by it o) h
+  unfolding next_by
+  by_holds it o p h e n = subst (λ o. Holds rules stands (IsGot IfItem) (next_by {S = S} it o) h) (sym e) n
+
+  -- where no iterator stands
+  other_holds : (it : ℕ) (o : Option (Option Parts)) (h : Heap) → o ≡ None →
+      Holds rules stands (IsGot IfItem) (next_by it o) h
+  unfolding next_by
+  other_holds it o h e = subst (λ o. Holds rules stands (IsGot IfItem) (next_by {S = S} it o) h) (sym e)
+      (holds_ret rules stands (IsGot IfItem) (Raise operand_fault) h (lit< tt, lit< tt, tt))
+
+  record_holds : (it : ℕ) (q : Rec) (h : Heap) → IsOrdered rules h → h it ≡ Some q →
+      Holds rules stands (IsGot IfItem) (next_by it (iter_parts q.kind q.values)) h
+  record_holds it q h order e = elim (kind_iter q.kind) [
+    | inl k ↦
+        let p = parted_at rules h it q order e k in
+        by_holds it (iter_parts q.kind q.values) p.parts h (ap (λ z. iter_parts z q.values) k ∙ ap Some p.is)
+        (with_holds it p.parts h order (subst (λ o. KindIn o (λ k. k ≡ Iter)) (sym e) k) p.over)
+    | inr n ↦ other_holds it (iter_parts q.kind q.values) h (n q.values)
+  ]
+
+  pub next_holds : (h : Heap) (it : ℕ) → IsOrdered rules h → IsItem h (Ref (record { 0 = it })) →
       Holds rules stands (IsGot IfItem) (next_row it) h
-  next_holds h it order k =
-      let t = at_of h it (λ k. k ≡ Iter) k in
-      let p = parted_at rules h it t.rec order t.here t.kind in
-      holds_read rules stands (IsGot IfItem) it (λ q. next_with it (parts_of q.values)) h t.rec t.here
-      (subst (λ o. Holds rules stands (IsGot IfItem) (next_with {S = S} it o) h) (sym p.is)
-      (with_holds it p.parts h order k p.over))
+  next_holds h it order i = by (h it) refl i.0
+    where
+      by : (o : Option Rec) → h it ≡ o → is_some o ≡ true → Holds rules stands (IsGot IfItem) (next_row it) h
+      by None e j = absurd (let z : false ≡ true = j in cc)
+      by (Some q) e j = holds_read rules stands (IsGot IfItem) it (λ q. next_by it (iter_parts q.kind q.values)) h q e
+          (record_holds it q h order e)

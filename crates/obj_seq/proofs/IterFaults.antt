@@ -12,7 +12,7 @@ use Rattle.py_data.specs.Heap.{Rec}
 use Rattle.py_data.specs.Row.{Ret, Do, Read}
 use Rattle.py_data.specs.Sense.{Sense, Lawful, Run}
 use Rattle.py_data.specs.Shape.{KindIn, is_iterable}
-use Rattle.obj_seq.specs.Iter.{iter_of, count_of, is_iter, make_iter_row, go_or_end, byte_or_end, pick, has_changed, is_str, next_over, next_with, parts_of}
+use Rattle.obj_seq.specs.Iter.{iter_of, count_of, is_iter, make_iter_row, go_or_end, byte_or_end, pick, has_changed, is_str, iter_parts, next_over, next_by, next_with}
 use Rattle.obj_seq.specs.Laws.{NoIterLaw, SizeLaw, Says}
 use Rattle.obj_seq.proofs.Leaving.{looked, says}
 
@@ -77,10 +77,11 @@ module _ {S X : Type 0} {u : Sense S X} (L : Lawful u) where
   no_iter_law (Builtin b) v w res n m d = raised v w res d
 
   pub size_law : SizeLaw u
-  unfolding next_with
-  size_law it d at count q r v w res e f g k n s =
-      let l = looked L it (λ q. next_with it (parts_of q.values)) q v w res e s in
-      let t = subst (λ vs. Run u (next_with {S = S} it (parts_of vs)) l.0 res w) f l.2 in
+  unfolding next_by next_with
+  size_law it d at count q r v w res e i f g k n s =
+      let l = looked L it (λ q. next_by it (iter_parts q.kind q.values)) q v w res e s in
+      let t = subst (λ vs. Run u (next_by {S = S} it (iter_parts Iter vs)) l.0 res w) f
+      (subst (λ z. Run u (next_by {S = S} it (iter_parts z q.values)) l.0 res w) i l.2) in
       let z = says L d (next_over it at count) r (Raise size_fault) res l.0 w (ap (λ h. h d) l.1 ∙ g)
       (size_changed it at count r k n) t in
       (z.0, z.1 ∙ l.1)

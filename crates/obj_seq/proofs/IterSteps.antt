@@ -1,16 +1,18 @@
 -- Rows that make an iterator, and let one go on.
 use Rattle.std.proofs.Common.{◌≡◌, ℕ, false, [], ◌∷◌, Option, Some, refl, sym, ap, subst, ◌∙◌}
 use Rattle.std.proofs.lemmas.Bool.{cond-false}
+use Rattle.py_data.specs.declared.record.Got.{Got}
+use Rattle.py_data.specs.declared.value.Value.{Value}
 use Rattle.py_data.specs.declared.value.Value.TheVariants.{Ref}
 use Rattle.py_base.specs.declared.kind.Kind.TheVariants.{Str}
 use Rattle.py_data.specs.Heap.{Rec, at, new_rec}
-use Rattle.py_data.specs.Row.{Do, Read, Make}
+use Rattle.py_data.specs.Row.{Row, Do, Read, Make}
 use Rattle.py_data.specs.Sense.{Sense, Lawful, Safe, IsLive}
 use Rattle.obj_seq.specs.declared.advance.Parts.{Parts}
 use Rattle.py_data.proofs.Steps.{leads_begin, leads_do}
 use Rattle.py_data.specs.inner.Rest.{Leads}
 use Rattle.py_data.proofs.Rows.{again}
-use Rattle.obj_seq.specs.Iter.{count_of, is_iter, iter_of, make_iter_row, next_with, parts_of, go_or_end, byte_or_end, next_row}
+use Rattle.obj_seq.specs.Iter.{count_of, is_iter, iter_of, iter_parts, make_iter_row, next_by, go_or_end, byte_or_end, next_row}
 use Rattle.py_data.proofs.AfterLook.{leads_looked, looked_record}
 
 pub iter_leads : {S X : Type 0} {u : Sense S X} (L : Lawful u) {a : ℕ} {v m x : X} {q : Rec} (o : Option ℕ) →
@@ -38,11 +40,11 @@ made_leads {S = S} {u = u} L it place {byte = byte} {v = v} {m = m} o made b e f
     leads_do L b first1 (subst (λ r. u.does (Make r) v b m) f d)
 
 -- what is left of an iterator's step once its parts are known
-pub parts_leads : {S X : Type 0} {u : Sense S X} (L : Lawful u) {it : ℕ} {v m : X} (o : Option Parts) →
-    u.does (Read it) v (at (u.heap v) it) m → o ≡ parts_of (at (u.heap v) it).values
-    → Safe {S = S} u.partial (next_row it) (u.heap v) → IsLive u v → Leads u (next_row {S = S} it) v (next_with it o) m
+pub parts_leads : {S X : Type 0} {u : Sense S X} (L : Lawful u) {it : ℕ} {v m : X} (o : Option (Option Parts)) →
+    u.does (Read it) v (at (u.heap v) it) m → o ≡ iter_parts (at (u.heap v) it).kind (at (u.heap v) it).values
+    → Safe {S = S} u.partial (next_row it) (u.heap v) → IsLive u v → Leads u (next_row {S = S} it) v (next_by it o) m
 parts_leads {S = S} {u = u} L {it = it} {v = v} {m = m} o d e s live =
-    let l = leads_looked L d refl (λ q. next_with it (parts_of q.values)) (λ q. next_with it (parts_of q.values)) s
-    live refl in
-    subst (λ p. Leads u (next_row {S = S} it) v (next_with it p) m)
-    (ap (λ q. parts_of q.values) (looked_record L d refl) ∙ sym e) l
+    let k : Rec → Row S (Got (Option Value)) = λ q. next_by it (iter_parts q.kind q.values) in
+    let l = leads_looked L d refl k k s live refl in
+    subst (λ p. Leads u (next_row {S = S} it) v (next_by it p) m)
+    (ap (λ q. iter_parts q.kind q.values) (looked_record L d refl) ∙ sym e) l

@@ -18,7 +18,7 @@ use Rattle.py_data.specs.Range.{range_length}
 use Rattle.obj_seq.specs.declared.advance.Parts.{Parts}
 use Rattle.obj_seq.specs.declared.span.Span.{Span}
 use Rattle.obj_seq.specs.Seq.{place, if_place, bound, put_row, gap_row, shift_row, item_at, set_item_at, del_item_at, pop_at, insert_at, slice_at}
-use Rattle.obj_seq.specs.Iter.{iter_row, iter_of, count_of, is_iter, make_iter_row, go_or_end, byte_or_end, pick, has_changed, is_str, next_over, next_with, next_row, parts_of, span_of}
+use Rattle.obj_seq.specs.Iter.{iter_row, iter_of, count_of, is_iter, make_iter_row, go_or_end, byte_or_end, pick, has_changed, is_str, iter_parts, next_over, next_by, next_with, next_row, span_of}
 use Rattle.obj_seq.specs.Gather.{letters_row, numbers, numbers_row, taken, take_row, left_row, gather_as, gather_of, gather_row}
 use Rattle.obj_seq.specs.HoldsLaws.{SeqSteady}
 
@@ -145,8 +145,14 @@ module _ (S : Type 0) where
   with_grown it (Some p) = look_grown p.over.0 (next_over it p.at p.count) (over_grown it p.at p.count)
   with_grown it None = ret_steady true _
 
+  by_grown : (it : ℕ) (o : Option (Option Parts)) → Steady {S = S} true (next_by it o)
+  unfolding next_by
+  by_grown it (Some o) = with_grown it o
+  by_grown it None = ret_steady true _
+
   next_grown : (it : ℕ) → Steady {S = S} true (next_row it)
-  next_grown it = look_grown it (λ q. next_with it (parts_of q.values)) (λ q. with_grown it (parts_of q.values))
+  next_grown it = look_grown it (λ q. next_by it (iter_parts q.kind q.values))
+      (λ q. by_grown it (iter_parts q.kind q.values))
 
   letters_grown : (made : List Value) (bs : List ℕ) → Steady {S = S} true (letters_row made bs)
   unfolding letters_row Steady

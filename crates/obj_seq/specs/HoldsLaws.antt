@@ -4,6 +4,7 @@
 use Rattle.std.specs.Prelude.{◌≡◌, ◌≤◌, ℕ, ℤ, false, List, length, Option}
 use Rattle.py_base.specs.declared.kind.Kind.TheVariants.{List as ListKind, Iter}
 use Rattle.py_data.specs.declared.value.Value.{Value}
+use Rattle.py_data.specs.declared.value.Value.TheVariants.{Ref}
 use Rattle.py_data.specs.declared.record.TheConstants.{LENGTH_LIMIT}
 use Rattle.py_data.specs.Every.{Every}
 use Rattle.py_data.specs.Heap.{Heap}
@@ -55,7 +56,8 @@ pub record SeqHolds {S : Type 0} (rules : Rules) (stands : Heap → S → Type 0
       Holds rules stands IsAnswer (slice_row a from to) h
   pub make_iter : (h : Heap) (x : Value) → IsOrdered rules h → IsItem h x →
       Holds rules stands (IsGot IsIterator) (iter_row x) h
-  pub next : (h : Heap) (it : ℕ) → IsOrdered rules h → IsIterAt h it → Holds rules stands (IsGot IfItem) (next_row it) h
+  pub next : (h : Heap) (it : ℕ) → IsOrdered rules h → IsItem h (Ref (record { 0 = it })) →
+      Holds rules stands (IsGot IfItem) (next_row it) h
   pub gather : (h : Heap) (x : Value) → IsOrdered rules h → IsItem h x →
       Holds rules stands (IsGot AreItems) (gather_row x) h
 

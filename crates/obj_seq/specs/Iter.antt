@@ -11,7 +11,7 @@ use Rattle.obj_seq.specs.declared.span.Span.{Span}
 use Rattle.py_data.specs.Heap.{Rec, new_rec}
 use Rattle.py_data.specs.declared.change.Change.TheVariants as change
 use Rattle.py_data.specs.Row.{Row, Ret, Do, Read, Edit, Make}
-use Rattle.py_data.specs.Fault.{iterable_fault, size_fault}
+use Rattle.py_data.specs.Fault.{iterable_fault, operand_fault, size_fault}
 use Rattle.py_data.specs.Range.{range_length, range_item}
 
 -- ---- what can be gone through
@@ -129,5 +129,15 @@ unfoldable pub next_with : {S : Type 0} → ℕ → Option Parts → Row S (Got 
 next_with it (Some p) = Do (Read p.over.0) (next_over it p.at p.count)
 next_with it None = Ret (Is None)
 
+-- what a record says, if it is an iterator
+abbrev pub iter_parts : Kind → List Value → Option (Option Parts)
+iter_parts Iter vs = Some (parts_of vs)
+iter_parts _ vs = None
+
+-- what is no iterator doesn't go on
+unfoldable pub next_by : {S : Type 0} → ℕ → Option (Option Parts) → Row S (Got (Option Value))
+next_by it (Some o) = next_with it o
+next_by it None = Ret (Raise operand_fault)
+
 abbrev pub next_row : {S : Type 0} → ℕ → Row S (Got (Option Value))
-next_row it = Do (Read it) (λ q. next_with it (parts_of q.values))
+next_row it = Do (Read it) (λ q. next_by it (iter_parts q.kind q.values))

@@ -112,5 +112,5 @@ module _ {S X : Type 0} (u : Sense S X) where
   abbrev pub SizeLaw : Type 0
   SizeLaw =
       (it d at count : ℕ) (q r : Rec) (v w : X) (res : Got (Option Value)) → u.heap v it ≡ Some q →
-      q.values ≡ iter_values d at count → u.heap v d ≡ Some r → r.kind ≡ Dict
+      q.kind ≡ Iter → q.values ≡ iter_values d at count → u.heap v d ≡ Some r → r.kind ≡ Dict
       → length r.values / 2 ≢ count → Run u (next_row it) v res w → Says (Raise size_fault) res v w

@@ -1,7 +1,10 @@
--- Places, bounds and parts, worked by hand for the list 1, 2, 3. States `docs/LANGUAGE.md`, "Lists and tuples".
+-- Places, bounds and parts, worked by hand for the list 1, 2, 3, and what an iterator says. States `docs/LANGUAGE.md`,
+-- "Lists and tuples" and "Iteration".
 use Rattle.std.specs.Prelude.{◌≡◌, pos, negsuc, List, [], ◌∷◌, Some, None, refl}
 use Rattle.py_data.specs.declared.value.Value.{Value}
+use Rattle.py_base.specs.declared.kind.Kind.TheVariants.{Iter, Range}
 use Rattle.py_data.specs.declared.value.Value.TheVariants.{Int}
+use Rattle.obj_seq.specs.Iter.{iter_parts, iter_values}
 use Rattle.obj_seq.specs.Seq.{place, bound, bound_or, part}
 
 abbrev three : List Value
@@ -51,3 +54,10 @@ whole = refl
 
 nothing : part three (bound_or (Some (pos 2)) 0 3) (bound_or (Some (pos 1)) 3 3) ≡ []
 nothing = refl
+
+-- at the second of three values of the record at 5; a range isn't an iterator
+second_of_three : iter_parts Iter (iter_values 5 1 3) ≡ Some (Some (record { over = record { 0 = 5 }; at = 1; count = 3 }))
+second_of_three = refl
+
+range_is_none : iter_parts Range (Int (pos 0) ∷ Int (pos 3) ∷ Int (pos 1) ∷ []) ≡ None
+range_is_none = refl

@@ -6,12 +6,12 @@ ghost use Rattle.py_data.specs.Made.{rec_of};
 ghost use Rattle.py_data.specs.Heap.{new_rec};
 ghost use Rattle.py_data.specs.Row.{Read, Do};
 ghost use Rattle.py_data.specs.Range.{range_length};
-ghost use Rattle.obj_seq.specs.Iter.{next_row, next_with, next_over, go_or_end, byte_or_end, number_in, parts_in, parts_of};
-ghost use Rattle.obj_seq.specs.inner.Heads.{ahead_of, LeavesRoom};
+ghost use Rattle.obj_seq.specs.Iter.{next_row, next_by, next_with, next_over, go_or_end, byte_or_end, iter_parts, number_in, parts_in};
+ghost use Rattle.obj_seq.specs.inner.Heads.{ahead_of, key_ahead, LeavesRoom};
 
 use crate::range::{range_item, range_length};
-use crate::span::{Span, span_in, three, three_in};
-use py_data::exception::{RUNTIME_ERROR, raise};
+use crate::span::{Span, read_span, three_in};
+use py_data::exception::{RUNTIME_ERROR, TYPE_ERROR, raise};
 use py_data::{Addr, Bytes, Got, Kind, LENGTH_LIMIT, NoMemory, Record, Stop, Value, Values, View};
 use std::alloc::Global;
 
@@ -44,16 +44,19 @@ fn parts_in(values: Option<(Value, Value, Value)>) -> Option<Parts>
     }
 }
 
-/// What an iterator's record says.
-#[tactic(auto, using(py_data::proofs::Rows::row_steps))]
-fn read_parts<S, V: View<S>>(v: &mut V, it: Addr) -> Result<Option<Parts>, Stop>
+/// What a record says, if it is an iterator.
+#[tactic(auto, using(py_data::proofs::Rows::row_steps, crate::proofs::Heads::three_of_head))]
+fn read_parts<S, V: View<S>>(v: &mut V, it: Addr) -> Result<Option<Option<Parts>>, Stop>
     requires live { IsLive V.sense v.old }
     requires there { Asks {S = S} V.sense.partial (Read it.0) (V.sense.heap v.old) }
-    ensures fits { IfOk result (λ o. IfSome o (λ p. p.at < 2 ^ 63)) }
-    ensures shows { Shows V.sense it.0 (λ q. parts_of q.values) v.old v.new result }
+    ensures fits { IfOk result (λ q. IfSome q (λ o. IfSome o (λ p. p.at < 2 ^ 63))) }
+    ensures shows { Shows V.sense it.0 (λ q. iter_parts q.kind q.values) v.old v.new result }
 {
-    let values = three(v, it)?;
-    Ok(parts_in(values))
+    let head = v.head(it)?;
+    match head.kind {
+        Kind::Iter => Ok(Some(parts_in(three_in(head)))),
+        _ => Ok(None),
+    }
 }
 
 /// The byte at a place of a string, if it has that place.
@@ -101,8 +104,61 @@ enum Ahead {
     Item(Option<Value>),
 }
 
+/// The value of a record at a place, if it has that place, by its count.
+#[tactic(auto, using(py_data::proofs::Rows::row_steps))]
+fn counted_item<S, V: View<S>>(v: &mut V, a: Addr, at: u64) -> Result<Option<Value>, Stop>
+    requires live { IsLive V.sense v.old }
+    requires there { Asks {S = S} V.sense.partial (Read a.0) (V.sense.heap v.old) }
+    ensures shows { Shows V.sense a.0 (λ r. slice_get r.values at) v.old v.new result }
+    ensures fits { IfOk result (λ o. IfSome o (λ _. at < LENGTH_LIMIT)) }
+{
+    let n = v.len(a)?;
+    if at < n as u64 {
+        Ok(Some(v.val(a, at as usize)?))
+    } else {
+        Ok(None)
+    }
+}
+
+/// The value of a record at a place, if it has that place. One that holds something tells that it is there.
+#[tactic(auto, using(py_data::proofs::Rows::row_steps))]
+fn item_at<S, V: View<S>>(v: &mut V, a: Addr, at: u64) -> Result<Option<Value>, Stop>
+    requires live { IsLive V.sense v.old }
+    requires there { Asks {S = S} V.sense.partial (Read a.0) (V.sense.heap v.old) }
+    ensures shows { Shows V.sense a.0 (λ r. slice_get r.values at) v.old v.new result }
+    ensures fits { IfOk result (λ o. IfSome o (λ _. at < LENGTH_LIMIT)) }
+{
+    if at < LENGTH_LIMIT as u64 {
+        match v.find_val(a, at as usize)? {
+            Value::Unset => counted_item(v, a, at),
+            x => Ok(Some(x)),
+        }
+    } else {
+        counted_item(v, a, at)
+    }
+}
+
+/// The key of a dictionary's pair at a place, which had so many pairs at its start.
+#[tactic(auto, using(py_data::proofs::Rows::row_steps))]
+fn key_at<S, V: View<S>>(v: &mut V, a: Addr, at: u64, count: u64) -> Result<Ahead, Stop>
+    requires live { IsLive V.sense v.old }
+    requires there { Asks {S = S} V.sense.partial (Read a.0) (V.sense.heap v.old) }
+    requires fits { at < 2 ^ 63 }
+    ensures shows { Shows V.sense a.0 (λ r. key_ahead r.values at count) v.old v.new result }
+    ensures fits { IfOk result (λ x. LeavesRoom x at) }
+{
+    let n = v.len(a)? as u64;
+    if n / 2 != count {
+        Ok(Ahead::Changed)
+    } else if 2 * at < n {
+        Ok(Ahead::Item(Some(v.val(a, (2 * at) as usize)?)))
+    } else {
+        Ok(Ahead::Item(None))
+    }
+}
+
 /// What an iterator comes to at a place of a record, which had so many pairs at its start if it is a dictionary.
-#[tactic(auto, using(py_data::proofs::Rows::row_steps, crate::proofs::Heads::three_of_head))]
+#[tactic(auto, using(py_data::proofs::Rows::row_steps))]
 fn look_ahead<S, V: View<S>>(v: &mut V, a: Addr, at: u64, count: u64) -> Result<Ahead, Stop>
     requires live { IsLive V.sense v.old }
     requires there { Asks {S = S} V.sense.partial (Read a.0) (V.sense.heap v.old) }
@@ -110,27 +166,17 @@ fn look_ahead<S, V: View<S>>(v: &mut V, a: Addr, at: u64, count: u64) -> Result<
     ensures shows { Shows V.sense a.0 (λ r. ahead_of r.kind r.values at count) v.old v.new result }
     ensures fits { IfOk result (λ x. LeavesRoom x at) }
 {
-    let head = v.head(a)?;
-    let n = head.count as u64;
-    match head.kind {
+    match v.kind(a)? {
         Kind::Str => Ok(Ahead::Text),
         Kind::List | Kind::Tuple => {
-            if at < n {
-                Ok(Ahead::Item(Some(v.val(a, at as usize)?)))
-            } else {
-                Ok(Ahead::Item(None))
-            }
+            let item = item_at(v, a, at)?;
+            Ok(Ahead::Item(item))
         }
-        Kind::Dict => {
-            if n / 2 != count {
-                Ok(Ahead::Changed)
-            } else if 2 * at < n {
-                Ok(Ahead::Item(Some(v.val(a, (2 * at) as usize)?)))
-            } else {
-                Ok(Ahead::Item(None))
-            }
+        Kind::Dict => key_at(v, a, at, count),
+        Kind::Range => {
+            let span = read_span(v, a)?;
+            Ok(Ahead::Item(number_in(span, at)))
         }
-        Kind::Range => Ok(Ahead::Item(number_in(span_in(three_in(head)), at))),
         _ => Ok(Ahead::Item(None)),
     }
 }
@@ -223,17 +269,53 @@ fn next_over<S, V: View<S>>(
     }
 }
 
+/// Lets an iterator go on, whose record may say nothing.
+#[tactic(auto, using(py_data::proofs::Rows::row_steps), unfolding(crate::specs::Iter::next_with))]
+fn next_with<S, V: View<S>>(
+    alloc: Global,
+    v: &mut V,
+    it: Addr,
+    parts: Option<Parts>,
+) -> Result<Got<Option<Value>>, Stop>
+    requires live { IsLive V.sense v.old }
+    requires fits { IfSome parts (λ p. p.at < 2 ^ 63) }
+    requires safe { Safe V.sense.partial (next_with {S = S} it.0 parts) (V.sense.heap v.old) }
+    ensures { Meets V.sense (next_with it.0 parts) v.old v.new result }
+{
+    match parts {
+        Some(parts) => next_over(alloc, v, it, parts),
+        None => Ok(Got::Is(None)),
+    }
+}
+
+/// The same of a record, if it is an iterator. TypeError where it isn't.
+#[tactic(auto, using(py_data::proofs::Rows::row_steps), unfolding(crate::specs::Iter::next_by))]
+fn next_by<S, V: View<S>>(
+    alloc: Global,
+    v: &mut V,
+    it: Addr,
+    parts: Option<Option<Parts>>,
+) -> Result<Got<Option<Value>>, Stop>
+    requires live { IsLive V.sense v.old }
+    requires fits { IfSome parts (λ o. IfSome o (λ p. p.at < 2 ^ 63)) }
+    requires safe { Safe V.sense.partial (next_by {S = S} it.0 parts) (V.sense.heap v.old) }
+    ensures { Meets V.sense (next_by it.0 parts) v.old v.new result }
+{
+    match parts {
+        Some(parts) => next_with(alloc, v, it, parts),
+        None => raise(alloc, TYPE_ERROR, b"unsupported operand"),
+    }
+}
+
 /// The next item of an iterator, or none at its end: of a list or tuple an item, of a string a new string of one byte,
 /// of a dictionary a key, of a range a number. RuntimeError where the dictionary has more or fewer pairs than when the
-/// iterator was made.
+/// iterator was made, and TypeError where the record is no iterator.
 #[tactic(auto, using(py_data::proofs::Rows::row_steps))]
 pub fn next<S, V: View<S>>(alloc: Global, v: &mut V, it: Addr) -> Result<Got<Option<Value>>, Stop>
     requires live { IsLive V.sense v.old }
     requires safe { Safe V.sense.partial (next_row {S = S} it.0) (V.sense.heap v.old) }
     ensures { Meets V.sense (next_row it.0) v.old v.new result }
 {
-    match read_parts(v, it)? {
-        Some(parts) => next_over(alloc, v, it, parts),
-        None => Ok(Got::Is(None)),
-    }
+    let parts = read_parts(v, it)?;
+    next_by(alloc, v, it, parts)
 }

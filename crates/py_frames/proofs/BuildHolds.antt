@@ -38,7 +38,7 @@ use Rattle.obj_seq.proofs.HoldingGather.{seq_holds}
 use Rattle.py_frames.specs.declared.state.Frame.{Frame}
 use Rattle.py_frames.specs.declared.next.Next.{Next}
 use Rattle.py_frames.specs.declared.next.Next.TheVariants.{Goes, Jumps}
-use Rattle.py_frames.specs.BuildRows.{built_row, build_row, pairs_set, dict_or_raise, filled_dict, new_dict, all_keys_row, size_or_key, too_many_pairs, build_dict_row, spread, spread_row, unpack_row, iter_instr, next_or_end, next_of, next_by, next_instr}
+use Rattle.py_frames.specs.BuildRows.{built_row, build_row, pairs_set, dict_or_raise, filled_dict, new_dict, all_keys_row, size_or_key, too_many_pairs, build_dict_row, spread, spread_row, unpack_row, iter_instr, next_or_end, next_instr}
 use Rattle.py_frames.specs.Fits.{IsThrough, IsTo, Fits}
 use Rattle.py_frames.specs.Raising.{raise_row, give, count_fault}
 use Rattle.py_frames.specs.Sound.{rules_of}
@@ -208,32 +208,14 @@ module _ {S : Type 0} (p : Program) (count roots : ℕ) (stands : Heap → S →
     ended_or_next t a (Is None) h c m l i j = leads_to p count roots stands e f (Jumps t []) h (l, tt)
     ended_or_next t a (Raise fault) h c m l i j = raises p count roots stands e f fault h c j
 
-    next_kind : (t : ℕ) (a : Addr) (k : Kind) (h : Heap) → Context p count roots h → PushesTwo e → IsTo e.flow t 0 →
-        IsItem h (Ref a) → RefTo h k (Ref a) → Ok (next_by roots t a.0 k) h
-    unfolding next_by next_of
-    next_kind t a Iter h c m l i s =
-        let q = seq_holds (rules_of p count) stands in
-        then_holds p count roots stands (IsGot IfItem) (Fits p e f) (next_row a.0)
-        (λ g. next_or_end roots t (ref a.0) g) h c (q.next h a.0 c.order s)
-        (λ g h1 c1 y j. ended_or_next t a.0 g h1 c1 m l (item_stays h h1 y (ref a.0) i) j)
-    next_kind t a Str h c m l i s = raises p count roots stands e f operand_fault h c (lit< tt, lit< tt, tt)
-    next_kind t a Tuple h c m l i s = raises p count roots stands e f operand_fault h c (lit< tt, lit< tt, tt)
-    next_kind t a ListKind h c m l i s = raises p count roots stands e f operand_fault h c (lit< tt, lit< tt, tt)
-    next_kind t a Dict h c m l i s = raises p count roots stands e f operand_fault h c (lit< tt, lit< tt, tt)
-    next_kind t a Cell h c m l i s = raises p count roots stands e f operand_fault h c (lit< tt, lit< tt, tt)
-    next_kind t a Function h c m l i s = raises p count roots stands e f operand_fault h c (lit< tt, lit< tt, tt)
-    next_kind t a Class h c m l i s = raises p count roots stands e f operand_fault h c (lit< tt, lit< tt, tt)
-    next_kind t a Instance h c m l i s = raises p count roots stands e f operand_fault h c (lit< tt, lit< tt, tt)
-    next_kind t a Method h c m l i s = raises p count roots stands e f operand_fault h c (lit< tt, lit< tt, tt)
-    next_kind t a Range h c m l i s = raises p count roots stands e f operand_fault h c (lit< tt, lit< tt, tt)
-    next_kind t a Lock h c m l i s = raises p count roots stands e f operand_fault h c (lit< tt, lit< tt, tt)
-    next_kind t a Thread h c m l i s = raises p count roots stands e f operand_fault h c (lit< tt, lit< tt, tt)
-
     pub next_holds : (t : ℕ) (x : Value) (h : Heap) → Context p count roots h → PushesTwo e → IsTo e.flow t 0 →
         IsItem h x → Ok (next_instr roots t x) h
     unfolding next_instr
-    next_holds t (Ref a) h c m l i = after_kind p count roots stands (Fits p e f) a (λ k. next_by roots t a.0 k) h c i
-        (λ k q. next_kind t a k h c m l i q)
+    next_holds t (Ref a) h c m l i =
+        let q = seq_holds (rules_of p count) stands in
+        then_holds p count roots stands (IsGot IfItem) (Fits p e f) (next_row a.0)
+        (λ g. next_or_end roots t (ref a.0) g) h c (q.next h a.0 c.order i)
+        (λ g h1 c1 y j. ended_or_next t a.0 g h1 c1 m l (item_stays h h1 y (ref a.0) i) j)
     next_holds t Unset h c m l i = raises p count roots stands e f operand_fault h c (lit< tt, lit< tt, tt)
     next_holds t NoneValue h c m l i = raises p count roots stands e f operand_fault h c (lit< tt, lit< tt, tt)
     next_holds t (BoolValue b) h c m l i = raises p count roots stands e f operand_fault h c (lit< tt, lit< tt, tt)

@@ -30,6 +30,7 @@ use Rattle.py_code.specs.Effects.{Effect as InstrEffect}
 use Rattle.py_code.specs.Right.{first_text}
 use Rattle.obj_class.specs.declared.lookup.Found.{Found}
 use Rattle.obj_class.specs.declared.lookup.Found.TheVariants.{Plain, Bound}
+use Rattle.obj_class.specs.Named.{method_of}
 use Rattle.obj_class.specs.AttrRows.{attr_row, set_attr_row, del_attr_row, find_attr_row, missing_row}
 use Rattle.obj_class.specs.Attributes.{attribute, attribute_fault}
 use Rattle.obj_class.specs.Bases.{ref}
@@ -45,7 +46,7 @@ use Rattle.obj_str.specs.Strings.{new_text}
 use Rattle.py_frames.specs.declared.state.Frame.{Frame}
 use Rattle.py_frames.specs.declared.next.Next.{Next}
 use Rattle.py_frames.specs.declared.next.Next.TheVariants.{Goes}
-use Rattle.py_frames.specs.AttrInstrs.{loaded_attr, load_attr_row, stored_attr, store_attr_row, dropped_attr, del_attr_instr, missing_method, found_method, loaded_method, load_method_row}
+use Rattle.py_frames.specs.AttrInstrs.{loaded_attr, load_attr_row, stored_attr, store_attr_row, dropped_attr, del_attr_instr, missing_method, found_method, loaded_method, attr_or_method, method_or_attr, load_method_row}
 use Rattle.py_frames.specs.Fits.{IsThrough, Fits}
 use Rattle.py_frames.specs.GlobalRows.{first_cell}
 use Rattle.py_frames.specs.ItemRows.{byte_row, byte_item_row, text_item, list_item, value_or_key, dict_item, item_by, item_of, load_item_row, set_list_item, set_by, set_item, store_item_row, del_list_item, del_key, del_by, del_item, del_item_instr, bounds_in, bound_in, bound_by, bytes_part, text_slice, slice_by, slice_at, slice_of, slice_instr}
@@ -426,10 +427,10 @@ module _ {S : Type 0} (p : Program) (count roots : ℕ) (stands : Heap → S →
     found_holds o name (Some (Bound x)) h c s t i j = leads_to p count roots stands e f (Goes (x ∷ o ∷ [])) h
         (t.0, sym t.1, (j.0.0, (i.0, tt)))
 
-    pub load_method_holds : (n : ℕ) (o : Value) (h : Heap) → Context p count roots h → Names p n → PushesTwo e →
-        IsItem h o → Ok (load_method_row roots n o) h
-    unfolding load_method_row loaded_method
-    load_method_holds n o h c w t i =
+    attr_or_method_holds : (n : ℕ) (o : Value) (h : Heap) → Context p count roots h → Names p n → PushesTwo e →
+        IsItem h o → Ok (attr_or_method roots n o) h
+    unfolding attr_or_method loaded_method
+    attr_or_method_holds n o h c w t i =
         let k = class_holds (rules_of p count) stands in
         let name = name_at n h c in
         let s = is_name n h c w in
@@ -439,3 +440,18 @@ module _ {S : Type 0} (p : Program) (count roots : ℕ) (stands : Heap → S →
         (λ z. found_method roots o name z) h c (k.find_attr h roots name o c.order c.rooted.known i s)
         (λ z q. found_holds o name z h c s t i
         (subst (λ z. IfSome z (IsGood (rules_of p count) h c.order)) (sym q) good)))
+
+    method_or_attr_holds : (n : ℕ) (o : Value) (b : Option ℕ) (h : Heap) → Context p count roots h → Names p n →
+        PushesTwo e → IsItem h o → Ok (method_or_attr roots n o b) h
+    unfolding method_or_attr
+    method_or_attr_holds n o (Some b) h c w t i = leads_to p count roots stands e f (Goes (Builtin b ∷ o ∷ [])) h
+        (t.0, sym t.1, (tt, (i.0, tt)))
+    method_or_attr_holds n o None h c w t i = attr_or_method_holds n o h c w t i
+
+    pub load_method_holds : (n : ℕ) (text : List ℕ) (o : Value) (h : Heap) → Context p count roots h → Names p n →
+        PushesTwo e → IsItem h o → Ok (load_method_row roots n text o) h
+    unfolding load_method_row
+    load_method_holds n text (Ref a) h c w t i =
+        after_kind p count roots stands (Fits p e f) a (λ k. method_or_attr roots n (Ref a) (method_of k text)) h c i
+        (λ k q. method_or_attr_holds n (Ref a) (method_of k text) h c w t i)
+    load_method_holds n text o h c w t i = attr_or_method_holds n o h c w t i

@@ -12,8 +12,8 @@ use Rattle.py_data.proofs.OnlyLooks.{only_look, only_kind}
 use Rattle.obj_class.specs.declared.lookup.Found.{Found}
 use Rattle.obj_class.specs.declared.lookup.Found.TheVariants.{Plain, Bound}
 use Rattle.py_frames.specs.declared.next.Next.TheVariants.{Goes}
-use Rattle.py_frames.specs.AttrInstrs.{loaded_attr, load_attr_row, stored_attr, store_attr_row, dropped_attr, del_attr_instr, missing_method, found_method, loaded_method, load_method_row}
-use Rattle.py_frames.specs.BuildRows.{built_row, build_row, dict_or_raise, filled_dict, new_dict, too_many_pairs, build_dict_row, spread, spread_row, unpack_row, iter_instr, next_or_end, next_of, next_by, next_instr}
+use Rattle.py_frames.specs.AttrInstrs.{loaded_attr, load_attr_row, stored_attr, store_attr_row, dropped_attr, del_attr_instr, missing_method, found_method, loaded_method, attr_or_method, method_or_attr, load_method_row}
+use Rattle.py_frames.specs.BuildRows.{built_row, build_row, dict_or_raise, filled_dict, new_dict, too_many_pairs, build_dict_row, spread, spread_row, unpack_row, iter_instr, next_or_end, next_instr}
 use Rattle.py_frames.specs.GlobalRows.{put_name_row, store_name_row, gone_row, drop_name_row, del_name_row}
 use Rattle.py_frames.specs.ItemRows.{load_item_row, store_item_row, del_item_instr, slice_instr}
 use Rattle.py_frames.specs.OperatorRows.{unary_instr, not_row, binary_instr, in_place_instr, compare_instr, jump_false_row, keep_false_row, keep_true_row}
@@ -24,6 +24,7 @@ use Rattle.py_data.specs.Looking.{bytes_row, got_row}
 use Rattle.py_data.specs.Steady.{Steady, Calm}
 use Rattle.py_data.proofs.CalmRows.{do_calm, ret_calm, make_calm, cond_calm, bind_steady, bind_calm, bytes_calm}
 use Rattle.py_data.proofs.OnlyLooks.{only_look, only_kind, looks_steady}
+use Rattle.obj_class.specs.Named.{method_of}
 use Rattle.obj_class.specs.AttrRows.{missing_row, attr_row, set_attr_row, del_attr_row, find_attr_row}
 use Rattle.obj_class.proofs.SteadyRows.{attr_steady, set_steady, del_steady, only_find}
 use Rattle.obj_dict.specs.Dict.{key_row, if_key, set_pair, set_row, del_row, get_row}
@@ -106,10 +107,21 @@ module _ (S : Type 0) where
   found_calm roots o name (Some (Plain x)) = ret_calm S _
   found_calm roots o name (Some (Bound x)) = ret_calm S _
 
-  pub load_method_steady : (roots n : ℕ) (o : Value) → T (load_method_row roots n o)
-  unfolding load_method_row loaded_method
-  load_method_steady roots n o = looked roots n _
+  attr_or_method_steady : (roots n : ℕ) (o : Value) → T (attr_or_method roots n o)
+  unfolding attr_or_method loaded_method
+  attr_or_method_steady roots n o = looked roots n _
       (λ name. looks_steady (find_attr_row roots o _) _ (only_find S roots _ o) (λ z. found_calm roots o _ z false))
+
+  method_or_attr_steady : (roots n : ℕ) (o : Value) (b : Option ℕ) → T (method_or_attr roots n o b)
+  unfolding method_or_attr
+  method_or_attr_steady roots n o (Some b) = ret_calm S _ false
+  method_or_attr_steady roots n o None = attr_or_method_steady roots n o
+
+  pub load_method_steady : (roots n : ℕ) (text : List ℕ) (o : Value) → T (load_method_row roots n text o)
+  unfolding load_method_row
+  load_method_steady roots n text (Ref a) = kinded a.0 _
+      (λ k. method_or_attr_steady roots n (Ref a) (method_of k text))
+  load_method_steady roots n text o = attr_or_method_steady roots n o
 
   -- ---- items
   text_calm : (bs : List ℕ) → Calm (new_text {S = S} bs)
@@ -338,13 +350,8 @@ module _ (S : Type 0) where
   next_end_calm roots t it (Is None) = ret S _
   next_end_calm roots t it (Raise e) = raise_calm S roots e
 
-  next_by_steady : (roots t a : ℕ) (k : Kind) → T (next_by roots t a k)
-  unfolding next_by next_of
-  next_by_steady roots t a Iter = let q = seq_steady S in
-      after (next_row a) _ (q.next a) (λ g. next_end_calm roots t _ g)
-  next_by_steady roots t a _ = raise_calm S roots _ false
-
   pub next_instr_steady : (roots t : ℕ) (x : Value) → T (next_instr roots t x)
   unfolding next_instr
-  next_instr_steady roots t (Ref a) = kinded a.0 _ (λ k. next_by_steady roots t a.0 k)
+  next_instr_steady roots t (Ref a) = let q = seq_steady S in
+      after (next_row a.0) _ (q.next a.0) (λ g. next_end_calm roots t _ g)
   next_instr_steady roots t _ = raise_calm S roots _ false

@@ -242,7 +242,8 @@ module _ (p : Program) (right : IsRightProgram p) (count : ℕ) (roots : Addr) w
     instr_holds (DelAttr n) w g = del_attr_holds p count roots.0 Standing (effect k (DelAttr n)) f n
         (value_at (xs (DelAttr n)) 0) h w.context w.fine.known (tt, refl) (item (DelAttr n) 0 w g (lit< tt))
     instr_holds (LoadMethod n) w g = load_method_holds p count roots.0 Standing (effect k (LoadMethod n)) f n
-        (value_at (xs (LoadMethod n)) 0) h w.context w.fine.known (tt, refl) (item (LoadMethod n) 0 w g (lit< tt))
+        (root_name p n) (value_at (xs (LoadMethod n)) 0) h w.context w.fine.known (tt, refl)
+        (item (LoadMethod n) 0 w g (lit< tt))
     instr_holds LoadItem w g = load_item_holds p count roots.0 Standing (effect k LoadItem) f
         (value_at (xs LoadItem) 0) (value_at (xs LoadItem) 1) h w.context (tt, refl) (item LoadItem 0 w g (lit< tt))
         (item LoadItem 1 w g (lit< tt))

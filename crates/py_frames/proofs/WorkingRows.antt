@@ -20,9 +20,9 @@ use Rattle.obj_threads.specs.Quiet.{Never}
 use Rattle.py_frames.specs.declared.state.Frame.{Frame}
 use Rattle.py_frames.specs.declared.next.Next.{Next}
 use Rattle.py_frames.specs.declared.next.Next.TheVariants.{Goes, Jumps, Stores, Enters, Leaves, Fails, Begins, Throws, Waits}
-use Rattle.py_frames.specs.AttrInstrs.{loaded_attr, load_attr_row, stored_attr, store_attr_row, dropped_attr, del_attr_instr, missing_method, found_method, loaded_method, load_method_row}
+use Rattle.py_frames.specs.AttrInstrs.{loaded_attr, load_attr_row, stored_attr, store_attr_row, dropped_attr, del_attr_instr, missing_method, found_method, loaded_method, attr_or_method, method_or_attr, load_method_row}
 use Rattle.py_frames.specs.Binding.{Given}
-use Rattle.py_frames.specs.BuildRows.{built_row, build_row, dict_or_raise, filled_dict, new_dict, too_many_pairs, build_dict_row, spread, spread_row, unpack_row, iter_instr, next_or_end, next_of, next_by, next_instr}
+use Rattle.py_frames.specs.BuildRows.{built_row, build_row, dict_or_raise, filled_dict, new_dict, too_many_pairs, build_dict_row, spread, spread_row, unpack_row, iter_instr, next_or_end, next_instr}
 use Rattle.py_frames.specs.CallRows.{function_call}
 use Rattle.py_frames.specs.ClassCalls.{Site, entered_row, given_instance, bare_call, with_instance, making_row, init_entered, function_init, record_init, value_init, init_or_bare, known_class, class_call}
 use Rattle.py_frames.specs.FunctionRows.{function_of, named_function, new_function, make_function_row, new_body, body_by, class_body_row, leave_row, class_of, new_class, class_row, instance_row, value_or_instance, return_by}
@@ -223,9 +223,20 @@ module _ (S : Type 0) where
   found_works roots o name (Some (Plain x)) = goes _
   found_works roots o name (Some (Bound x)) = goes _
 
-  pub load_method_works : (roots n : ℕ) (o : Value) → Works {S = S} (load_method_row roots n o)
-  unfolding load_method_row loaded_method
-  load_method_works roots n o = then_works _ _ (λ name. then_works _ _ (λ z. found_works roots o _ z))
+  attr_or_method_works : (roots n : ℕ) (o : Value) → Works {S = S} (attr_or_method roots n o)
+  unfolding attr_or_method loaded_method
+  attr_or_method_works roots n o = then_works _ _ (λ name. then_works _ _ (λ z. found_works roots o _ z))
+
+  method_or_attr_works : (roots n : ℕ) (o : Value) (b : Option ℕ) → Works {S = S} (method_or_attr roots n o b)
+  unfolding method_or_attr
+  method_or_attr_works roots n o (Some b) = goes _
+  method_or_attr_works roots n o None = attr_or_method_works roots n o
+
+  pub load_method_works : (roots n : ℕ) (text : List ℕ) (o : Value) → Works {S = S} (load_method_row roots n text o)
+  unfolding load_method_row
+  load_method_works roots n text (Ref a) = then_works _ _
+      (λ k. method_or_attr_works roots n (Ref a) (method_of k text))
+  load_method_works roots n text o = attr_or_method_works roots n o
 
   pub load_item_works : (roots : ℕ) (o i : Value) → Works {S = S} (load_item_row roots o i)
   unfolding load_item_row
@@ -320,14 +331,9 @@ module _ (S : Type 0) where
   next_end_works roots t it (Is None) = jumps t []
   next_end_works roots t it (Raise e) = raises roots e
 
-  pub next_by_works : (roots t a : ℕ) (k : Kind) → Works {S = S} (next_by roots t a k)
-  unfolding next_by next_of
-  next_by_works roots t a Iter = then_works _ _ (λ g. next_end_works roots t _ g)
-  next_by_works roots t a _ = raises roots _
-
   pub next_works : (roots t : ℕ) (x : Value) → Works {S = S} (next_instr roots t x)
   unfolding next_instr
-  next_works roots t (Ref a) = then_works _ _ (λ k. next_by_works roots t a.0 k)
+  next_works roots t (Ref a) = then_works _ _ (λ g. next_end_works roots t _ g)
   next_works roots t _ = raises roots _
 
   -- ---- functions and classes

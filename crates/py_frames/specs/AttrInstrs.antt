@@ -1,12 +1,13 @@
 -- The rows of attributes. States `docs/LANGUAGE.md`, "Instructions" and "Attributes".
-use Rattle.std.specs.Prelude.{ℕ, [], ◌∷◌, Option, Some, None}
+use Rattle.std.specs.Prelude.{ℕ, List, [], ◌∷◌, Option, Some, None}
 use Rattle.py_data.specs.declared.value.Value.{Value}
-use Rattle.py_data.specs.declared.value.Value.TheVariants.{Unset}
-use Rattle.py_data.specs.Looking.{look_row}
+use Rattle.py_data.specs.declared.value.Value.TheVariants.{Unset, Ref, Builtin}
+use Rattle.py_data.specs.Looking.{kind_row, look_row}
 use Rattle.py_data.specs.Row.{Row, Ret, bind}
 use Rattle.obj_class.specs.declared.lookup.Found.{Found}
 use Rattle.obj_class.specs.declared.lookup.Found.TheVariants.{Plain, Bound}
 use Rattle.obj_class.specs.AttrRows.{attr_row, set_attr_row, del_attr_row, find_attr_row, missing_row}
+use Rattle.obj_class.specs.Named.{method_of}
 use Rattle.py_frames.specs.declared.next.Next.{Next}
 use Rattle.py_frames.specs.declared.next.Next.TheVariants.{Goes}
 use Rattle.py_frames.specs.Raising.{place_in, give, done}
@@ -44,5 +45,14 @@ found_method roots o name (Some (Bound f)) = Ret (Goes (f ∷ o ∷ []))
 unfoldable pub loaded_method : {S : Type 0} → ℕ → Value → ℕ → Row S Next
 loaded_method roots o name = bind (find_attr_row roots o name) (λ f. found_method roots o name f)
 
-unfoldable pub load_method_row : {S : Type 0} → ℕ → ℕ → Value → Row S Next
-load_method_row roots n o = bind (look_row roots n) (λ name. loaded_method roots o (place_in name))
+unfoldable pub attr_or_method : {S : Type 0} → ℕ → ℕ → Value → Row S Next
+attr_or_method roots n o = bind (look_row roots n) (λ name. loaded_method roots o (place_in name))
+
+-- the text of the name tells whether it is a builtin method of the object's kind; any other is found by its string
+unfoldable pub method_or_attr : {S : Type 0} → ℕ → ℕ → Value → Option ℕ → Row S Next
+method_or_attr roots n o (Some b) = Ret (Goes (Builtin b ∷ o ∷ []))
+method_or_attr roots n o None = attr_or_method roots n o
+
+unfoldable pub load_method_row : {S : Type 0} → ℕ → ℕ → List ℕ → Value → Row S Next
+load_method_row roots n text (Ref a) = bind (kind_row a.0) (λ k. method_or_attr roots n (Ref a) (method_of k text))
+load_method_row roots n text o = attr_or_method roots n o

@@ -2,7 +2,7 @@
 -- "Instructions", "Iteration" and "Sizes".
 use Rattle.std.specs.Prelude.{ℕ, ◌==◌, Bool, true, false, cond, leb, List, [], ◌∷◌, length, reverse, Option, Some, None}
 use Rattle.py_base.specs.declared.kind.Kind.{Kind}
-use Rattle.py_base.specs.declared.kind.Kind.TheVariants.{Dict, Iter}
+use Rattle.py_base.specs.declared.kind.Kind.TheVariants.{Dict}
 use Rattle.py_data.specs.declared.value.Value.{Value}
 use Rattle.py_data.specs.declared.value.Value.TheVariants.{Ref}
 use Rattle.py_data.specs.declared.record.Fault.{Fault}
@@ -11,7 +11,7 @@ use Rattle.py_data.specs.declared.record.Got.TheVariants.{Is, Raise}
 use Rattle.py_data.specs.declared.record.TheConstants.{LENGTH_LIMIT}
 use Rattle.py_data.specs.Fault.{hash_fault, memory_fault, operand_fault}
 use Rattle.py_data.specs.Heap.{new_rec}
-use Rattle.py_data.specs.Looking.{got_row, kind_row}
+use Rattle.py_data.specs.Looking.{got_row}
 use Rattle.py_data.specs.Row.{Row, Ret, bind}
 use Rattle.obj_class.specs.Exceptions.{made_row}
 use Rattle.obj_dict.specs.Dict.{key_row, set_row}
@@ -83,13 +83,7 @@ next_or_end roots t it (Is (Some y)) = Ret (Goes (it ∷ y ∷ []))
 next_or_end roots t it (Is None) = Ret (Jumps t [])
 next_or_end roots t it (Raise e) = raise_row roots e
 
-unfoldable pub next_of : {S : Type 0} → ℕ → ℕ → ℕ → Row S Next
-next_of roots t a = bind (next_row a) (λ g. next_or_end roots t (Ref (record { 0 = a })) g)
-
-unfoldable pub next_by : {S : Type 0} → ℕ → ℕ → ℕ → Kind → Row S Next
-next_by roots t a Iter = next_of roots t a
-next_by roots t a _ = raise_row roots operand_fault
-
+-- what is no iterator raises TypeError
 unfoldable pub next_instr : {S : Type 0} → ℕ → ℕ → Value → Row S Next
-next_instr roots t (Ref a) = bind (kind_row a.0) (λ k. next_by roots t a.0 k)
+next_instr roots t (Ref a) = bind (next_row a.0) (λ g. next_or_end roots t (Ref a) g)
 next_instr roots t _ = raise_row roots operand_fault

@@ -1,9 +1,10 @@
 //! Attributes.
 ghost use Rattle.py_data.specs.Sense.{Meets, Safe, IsLive};
-ghost use Rattle.py_frames.specs.AttrInstrs.{del_attr_instr, dropped_attr, found_method, load_attr_row, load_method_row, loaded_attr, loaded_method, missing_method, store_attr_row, stored_attr};
+ghost use Rattle.py_frames.specs.AttrInstrs.{del_attr_instr, dropped_attr, attr_or_method, found_method, load_attr_row, load_method_row, loaded_attr, loaded_method, method_or_attr, missing_method, store_attr_row, stored_attr};
+ghost use Rattle.py_data.specs.declared.value.Value.TheVariants.{Ref};
 
-use obj_class::{Found, attr, del_attr, find_attr, missing, set_attr};
-use py_data::{Addr, Stop, Value, View, look};
+use obj_class::{Found, attr, del_attr, find_attr, method_of, missing, set_attr};
+use py_data::{Addr, Stop, Value, View, kind, look};
 use py_frames::Next;
 use py_parts::{done, give, place_in, push_two};
 use std::alloc::Global;
@@ -166,9 +167,9 @@ fn loaded_method<S, V: View<S>>(
     found_method(alloc, v, roots, o, name, found)
 }
 
-/// LOAD_METHOD, of the name that is the root of number `n`.
-#[tactic(auto, using(py_data::proofs::Rows::row_steps, py_data::proofs::Steps::call_steps), unfolding(py_frames::specs::AttrInstrs::load_method_row))]
-pub fn load_method_row<S, V: View<S>>(
+/// LOAD_METHOD, of the name that is the root of number `n`, by its string.
+#[tactic(auto, using(py_data::proofs::Rows::row_steps, py_data::proofs::Steps::call_steps), unfolding(py_frames::specs::AttrInstrs::attr_or_method))]
+fn attr_or_method<S, V: View<S>>(
     alloc: Global,
     v: &mut V,
     roots: Addr,
@@ -176,9 +177,74 @@ pub fn load_method_row<S, V: View<S>>(
     o: Value,
 ) -> Result<Next, Stop>
     requires live { IsLive V.sense v.old }
-    requires safe { Safe V.sense.partial (load_method_row {S = S} roots.0 n o) (V.sense.heap v.old) }
-    ensures { Meets V.sense (load_method_row roots.0 n o) v.old v.new result }
+    requires safe { Safe V.sense.partial (attr_or_method {S = S} roots.0 n o) (V.sense.heap v.old) }
+    ensures { Meets V.sense (attr_or_method roots.0 n o) v.old v.new result }
 {
     let name = look(v, roots, n as usize)?;
     loaded_method(alloc, v, roots, o, place_in(name))
+}
+
+/// LOAD_METHOD of a name that is the builtin method of this number, or none of the object's kind.
+#[tactic(auto, using(py_data::proofs::Rows::row_steps), unfolding(py_frames::specs::AttrInstrs::method_or_attr))]
+fn method_or_attr<S, V: View<S>>(
+    alloc: Global,
+    v: &mut V,
+    roots: Addr,
+    n: u32,
+    o: Value,
+    method: Option<u8>,
+) -> Result<Next, Stop>
+    requires live { IsLive V.sense v.old }
+    requires safe { Safe V.sense.partial (method_or_attr {S = S} roots.0 n o method) (V.sense.heap v.old) }
+    ensures { Meets V.sense (method_or_attr roots.0 n o method) v.old v.new result }
+{
+    match method {
+        Some(b) => Ok(push_two(Value::Builtin(b), o)),
+        None => attr_or_method(alloc, v, roots, n, o),
+    }
+}
+
+/// LOAD_METHOD of a record.
+#[tactic(auto, using(py_data::proofs::Rows::row_steps, py_data::proofs::Steps::call_steps), unfolding(py_frames::specs::AttrInstrs::load_method_row))]
+fn record_method<S, V: View<S>>(
+    alloc: Global,
+    v: &mut V,
+    roots: Addr,
+    n: u32,
+    text: &[u8],
+    a: Addr,
+) -> Result<Next, Stop>
+    requires live { IsLive V.sense v.old }
+    requires safe { Safe V.sense.partial (load_method_row {S = S} roots.0 n text.now (Ref a)) (V.sense.heap v.old) }
+    ensures { Meets V.sense (load_method_row roots.0 n text.now (Ref a)) v.old v.new result }
+{
+    let kind = kind(v, a)?;
+    method_or_attr(
+        alloc,
+        v,
+        roots,
+        n,
+        Value::Ref(a),
+        method_of(kind, text),
+    )
+}
+
+/// LOAD_METHOD, of the name that is the root of number `n` and has this text.
+#[tactic(auto, using(py_data::proofs::Rows::row_steps), unfolding(py_frames::specs::AttrInstrs::load_method_row))]
+pub fn load_method_row<S, V: View<S>>(
+    alloc: Global,
+    v: &mut V,
+    roots: Addr,
+    n: u32,
+    text: &[u8],
+    o: Value,
+) -> Result<Next, Stop>
+    requires live { IsLive V.sense v.old }
+    requires safe { Safe V.sense.partial (load_method_row {S = S} roots.0 n text.now o) (V.sense.heap v.old) }
+    ensures { Meets V.sense (load_method_row roots.0 n text.now o) v.old v.new result }
+{
+    match o {
+        Value::Ref(a) => record_method(alloc, v, roots, n, text, a),
+        _ => attr_or_method(alloc, v, roots, n, o),
+    }
 }

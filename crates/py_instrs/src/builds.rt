@@ -16,7 +16,6 @@ use obj_seq::{gather, make_iter, next as next_item};
 use py_data::exception::{MEMORY_ERROR, TYPE_ERROR, VALUE_ERROR};
 use py_data::{
     Addr, Bytes, Fault, Got, Kind, LENGTH_LIMIT, NoMemory, Record, Stop, Value, Values, View, With,
-    kind,
 };
 use py_frames::{Next, Pushed};
 use py_parts::{give, memory_fault, place_in, push, push_two, raise_operand, raise_row, told};
@@ -376,43 +375,6 @@ fn next_or_end<S, V: View<S>>(
     }
 }
 
-/// An iterator goes on.
-#[tactic(auto, using(py_data::proofs::Rows::row_steps, py_data::proofs::Steps::call_steps), unfolding(py_frames::specs::BuildRows::next_of))]
-fn next_of<S, V: View<S>>(
-    alloc: Global,
-    v: &mut V,
-    roots: Addr,
-    t: u32,
-    a: Addr,
-) -> Result<Next, Stop>
-    requires live { IsLive V.sense v.old }
-    requires safe { Safe V.sense.partial (rows.next_of {S = S} roots.0 t a.0) (V.sense.heap v.old) }
-    ensures { Meets V.sense (rows.next_of roots.0 t a.0) v.old v.new result }
-{
-    let got = next_item(alloc, v, a)?;
-    next_or_end(alloc, v, roots, t, Value::Ref(a), got)
-}
-
-/// A record of a kind goes on, if it is an iterator.
-#[tactic(auto, using(py_data::proofs::Rows::row_steps), unfolding(py_frames::specs::BuildRows::next_by))]
-fn next_by<S, V: View<S>>(
-    alloc: Global,
-    v: &mut V,
-    roots: Addr,
-    t: u32,
-    a: Addr,
-    kind: Kind,
-) -> Result<Next, Stop>
-    requires live { IsLive V.sense v.old }
-    requires safe { Safe V.sense.partial (rows.next_by {S = S} roots.0 t a.0 kind) (V.sense.heap v.old) }
-    ensures { Meets V.sense (rows.next_by roots.0 t a.0 kind) v.old v.new result }
-{
-    match kind {
-        Kind::Iter => next_of(alloc, v, roots, t, a),
-        _ => raise_operand(alloc, v, roots),
-    }
-}
-
 /// A record goes on, if it is an iterator.
 #[tactic(auto, using(py_data::proofs::Rows::row_steps, py_data::proofs::Steps::call_steps), unfolding(py_frames::specs::BuildRows::next_instr))]
 fn next_at<S, V: View<S>>(
@@ -426,8 +388,8 @@ fn next_at<S, V: View<S>>(
     requires safe { Safe V.sense.partial (rows.next_instr {S = S} roots.0 t (Ref a)) (V.sense.heap v.old) }
     ensures { Meets V.sense (rows.next_instr roots.0 t (Ref a)) v.old v.new result }
 {
-    let kind = kind(v, a)?;
-    next_by(alloc, v, roots, t, a, kind)
+    let got = next_item(alloc, v, a)?;
+    next_or_end(alloc, v, roots, t, Value::Ref(a), got)
 }
 
 /// NEXT: the iterator and its next item are pushed, or the place `t` follows where it is at its end.

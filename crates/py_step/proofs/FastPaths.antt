@@ -4,8 +4,7 @@ use Rattle.std.proofs.Math.Dec.{eqb-suc-zero}
 use Rattle.std.proofs.lemmas.Bool.{lt-ltb}
 use Rattle.std.proofs.lemmas.List.{length-drop, take-append-drop, take_all}
 use Rattle.std.specs.Prelude.{IfOk, IfErr, OnErr}
-use Rattle.py_base.specs.declared.kind.Kind.{Kind}
-use Rattle.py_base.specs.declared.kind.Kind.TheVariants.{Str, Tuple, List as ListKind, Dict, Cell, Function, Class, Instance, Method, Iter, Range, Lock, Thread as ThreadKind}
+use Rattle.py_base.specs.declared.kind.Kind.TheVariants.{Function}
 use Rattle.py_data.specs.declared.value.Addr.{Addr}
 use Rattle.py_data.specs.declared.stop.Stop.{Stop}
 use Rattle.py_data.specs.declared.stop.Stop.TheVariants.{OutOfMemory}
@@ -28,13 +27,15 @@ use Rattle.obj_builtins.specs.Calls.{call_row}
 use Rattle.obj_class.specs.declared.lookup.Found.{Found}
 use Rattle.obj_class.specs.declared.lookup.Found.TheVariants.{Plain, Bound}
 use Rattle.obj_class.specs.AttrRows.{find_attr_row}
+use Rattle.obj_class.specs.Named.{method_of}
+use Rattle.obj_seq.specs.Iter.{next_row}
 use Rattle.obj_threads.specs.declared.answer.Answer.TheVariants.{Value as ValueAnswer}
 use Rattle.py_frames.specs.declared.next.Next.{Next}
 use Rattle.py_frames.specs.declared.next.Next.TheVariants.{Enters, Goes, Jumps}
 use Rattle.py_frames.specs.declared.state.Frame.{Frame}
-use Rattle.py_frames.specs.AttrInstrs.{load_attr_row, load_method_row, loaded_attr, loaded_method, found_method, store_attr_row, stored_attr}
+use Rattle.py_frames.specs.AttrInstrs.{attr_or_method, method_or_attr, load_attr_row, load_method_row, loaded_attr, loaded_method, found_method, store_attr_row, stored_attr}
 use Rattle.py_frames.specs.Binding.{Given, bound_row, bound_to, defaulted_row, numbered_row, plainly, with_first, with_own}
-use Rattle.py_frames.specs.BuildRows.{next_by, next_instr, next_of, next_or_end}
+use Rattle.py_frames.specs.BuildRows.{next_instr, next_or_end}
 use Rattle.py_frames.specs.CallRows.{answered, builtin_call, function_call, keyed_call, keys_row, record_call, value_call}
 use Rattle.py_frames.specs.ClassCalls.{entered_row, MOST_FRAMES}
 use Rattle.py_frames.specs.GlobalRows.{builtin_named, load_cell_row, load_global_row, set_cell_row, store_global_row}
@@ -44,7 +45,7 @@ use Rattle.py_frames.specs.Raising.{place_in, place_of, raise_row, give, done, c
 use Rattle.py_frames.specs.State.{State, advanced, code_at, operands, pops, root_name, settled, with_frames}
 use Rattle.py_frames.specs.Steps.{given_in, guarded_row, has_unset, instr_row, is_unset, step_at, wanted}
 use Rattle.py_states.specs.Innermost.{innermost, settled_in, Settles}
-use Rattle.py_step.specs.inner.FastPath.{arguments, called, called_as, called_builtin, called_code, called_with, code_row, ending, ended, found_values, global_value, item_by, item_end, method_by, named_attr, next_item, set_global, set_named_attr, site, value_of, IsCallee}
+use Rattle.py_step.specs.inner.FastPath.{arguments, attr_method, called, called_as, called_builtin, called_code, called_with, code_row, ending, ended, found_values, global_value, item_end, kind_method, method_by, named_attr, set_global, set_named_attr, site, value_of, IsCallee}
 use Rattle.py_step.specs.inner.Moves.{Moves}
 use Rattle.py_step.specs.declared.calls.Callee.{Callee}
 use Rattle.py_step.specs.declared.calls.Callee.TheVariants as callee
@@ -211,11 +212,11 @@ module _ (p : Program) (s : State) where
         (done (place_of s.roots)) refl q (set_two x o m k) refl
         ∙ ap (λ b. bind (set_named_attr b n x o) (λ g. ended p s 2 (done (place_of s.roots) g))) (sym e)
 
-    pub load_method_is : (n : ℕ) (o : Value) → operands 1 top ≡ o ∷ [] → (o ≡ Unset → ⊥) →
-        step (LoadMethod n) ≡ bind (look_row a n) (λ name. method_by p s o (place_in name))
-    unfolding instr_row load_method_row
-    load_method_is n o q m = parted 1 (LoadMethod n) (o ∷ []) (look_row (place_of s.roots) n)
-        (λ name. loaded_method (place_of s.roots) o (place_in name)) refl q (λ i. is_set o m i || false) refl
+    pub attr_method_is : (n : ℕ) (o : Value) →
+        attr_method p s n o ≡ bind (look_row a n) (λ name. method_by p s o (place_in name))
+    unfolding attr_or_method
+    attr_method_is n o = bind_bind (look_row (place_of s.roots) n)
+        (λ name. loaded_method (place_of s.roots) o (place_in name)) (ending p s 1)
         ∙ ap (λ b. bind (look_row b n) (λ name. method_by p s o (place_in name))) (sym e)
 
     pub method_by_is : (o : Value) (name : ℕ) → method_by p s o name
@@ -237,29 +238,26 @@ module _ (p : Program) (s : State) where
   store_item_is x o i q n m k = parted 3 StoreItem (x ∷ o ∷ i ∷ []) (set_item o i x) (done (place_of s.roots)) refl q
       (set_three x o i n m k) refl
 
-  -- the row of NEXT, kind by kind
-  next_by_is : (t : ℕ) (a : Addr) (k : Kind) →
-      next_by {S = State} (place_of s.roots) t a.0 k ≡ bind (item_by a.0 k) (next_or_end (place_of s.roots) t (Ref a))
-  unfolding next_by next_of next_or_end bind
-  next_by_is t a Str = refl
-  next_by_is t a Tuple = refl
-  next_by_is t a ListKind = refl
-  next_by_is t a Dict = refl
-  next_by_is t a Cell = refl
-  next_by_is t a Function = refl
-  next_by_is t a Class = refl
-  next_by_is t a Instance = refl
-  next_by_is t a Method = refl
-  next_by_is t a Iter = refl
-  next_by_is t a Range = refl
-  next_by_is t a Lock = refl
-  next_by_is t a ThreadKind = refl
+  pub load_method_is : (n : ℕ) (a : Addr) → operands 1 top ≡ Ref a ∷ [] →
+      step (LoadMethod n) ≡ bind (kind_row a.0) (λ k. kind_method p s n (Ref a) (method_of k (root_name p n)))
+  unfolding instr_row load_method_row
+  load_method_is n a q = parted 1 (LoadMethod n) (Ref a ∷ []) (kind_row a.0)
+      (λ k. method_or_attr (place_of s.roots) n (Ref a) (method_of k (root_name p n))) refl q refl refl
+
+  pub kind_method_is : (n : ℕ) (o : Value) (b : ℕ) →
+      kind_method p s n o (Some b) ≡ ending p s 1 (Goes (Builtin b ∷ o ∷ []))
+  unfolding method_or_attr bind
+  kind_method_is n o b = refl
+
+  pub no_kind_method_is : (n : ℕ) (o : Value) → kind_method p s n o None ≡ attr_method p s n o
+  unfolding method_or_attr
+  no_kind_method_is n o = refl
 
   pub next_is : (t : ℕ) (a : Addr) → operands 1 top ≡ Ref a ∷ [] →
-      step (NextInstr t) ≡ bind (next_item a.0) (λ g. ended p s 1 (next_or_end (place_of s.roots) t (Ref a) g))
-  unfolding instr_row next_instr kind_row bind
-  next_is t a q = parted 1 (NextInstr t) (Ref a ∷ []) (next_item a.0) (next_or_end (place_of s.roots) t (Ref a)) refl q
-      refl (λ i. Do (Read a.0) (λ r. next_by_is t a r.kind i))
+      step (NextInstr t) ≡ bind (next_row a.0) (λ g. ended p s 1 (next_or_end (place_of s.roots) t (Ref a) g))
+  unfolding instr_row next_instr
+  next_is t a q = parted 1 (NextInstr t) (Ref a ∷ []) (next_row a.0) (next_or_end (place_of s.roots) t (Ref a)) refl q
+      refl refl
 
 -- ---- calls: what is called stands below n values, which are the arguments
 

@@ -16,7 +16,7 @@ ghost use Rattle.py_frames.specs.Steps as steps;
 ghost use Rattle.py_states.specs.Innermost.{innermost, settled_in, Settles};
 ghost use Rattle.py_step.specs.inner.Moves.{Moves};
 ghost use Rattle.py_step.specs.inner.Operators.{HasOperator};
-ghost use Rattle.py_step.specs.inner.FastPath.{ended, global_value, found_values, item_by, item_end, method_by, named_attr, next_item, set_cell, set_global, set_named_attr};
+ghost use Rattle.py_step.specs.inner.FastPath.{attr_method, ended, global_value, found_values, item_end, kind_method, method_by, named_attr, set_cell, set_global, set_named_attr};
 
 use crate::calls::{call, call_method, find_callee};
 use crate::ends::{done, give_none, give_one, give_two, given, jump, raised, settle};
@@ -24,12 +24,12 @@ use crate::place::place_of;
 use crate::prepared::Prepared;
 use crate::step::go_by_row;
 use lock_run::Outcome;
-use obj_class::{Found, attr, find_attr, set_attr};
+use obj_class::{Found, attr, find_attr, method_of, set_attr};
 use obj_seq::next;
 use py_code::Instr;
-use py_data::{Addr, Got, Kind, Stop, Value, View, kind, look};
+use py_data::{Addr, Got, Stop, Value, View, kind, look};
 use py_instrs::{bound_row, item_of, set_item};
-use py_parts::{operand_fault, place_in, root_name};
+use py_parts::{place_in, root_name};
 use py_states::ThreadState;
 use std::alloc::Global;
 
@@ -133,35 +133,6 @@ fn set_named_attr<S, V: View<S>>(
 {
     let name = look(v, roots, n as usize)?;
     set_attr(alloc, v, o, place_in(name), x)
-}
-
-/// The next item of a record of a kind, if it is an iterator.
-#[tactic(auto, using(py_data::proofs::Rows::row_steps))]
-fn item_by<S, V: View<S>>(
-    alloc: Global,
-    v: &mut V,
-    a: Addr,
-    kind: Kind,
-) -> Result<Got<Option<Value>>, Stop>
-    requires live { IsLive V.sense v.old }
-    requires safe { Safe V.sense.partial (item_by {S = S} a.0 kind) (V.sense.heap v.old) }
-    ensures { Meets V.sense (item_by a.0 kind) v.old v.new result }
-{
-    match kind {
-        Kind::Iter => next(alloc, v, a),
-        _ => Ok(Got::Raise(operand_fault(alloc)?)),
-    }
-}
-
-/// The next item of a record, if it is an iterator.
-#[tactic(auto, using(py_data::proofs::Rows::row_steps, py_data::proofs::Steps::call_steps))]
-fn next_item<S, V: View<S>>(alloc: Global, v: &mut V, a: Addr) -> Result<Got<Option<Value>>, Stop>
-    requires live { IsLive V.sense v.old }
-    requires safe { Safe V.sense.partial (next_item {S = S} a.0) (V.sense.heap v.old) }
-    ensures { Meets V.sense (next_item a.0) v.old v.new result }
-{
-    let kind = kind(v, a)?;
-    item_by(alloc, v, a, kind)
 }
 
 /// A next item is pushed on its iterator, the one operand; where there is none, a place follows.
@@ -437,8 +408,8 @@ fn method_by<V: View<ThreadState>>(
     found_method(alloc, v, p, s, o, name, found)
 }
 
-/// LOAD_METHOD of an object.
-fn load_method<V: View<ThreadState>>(
+/// LOAD_METHOD of a name that is no builtin method of the object's kind, by the name's string.
+fn attr_method<V: View<ThreadState>>(
     alloc: Global,
     v: &mut V,
     p: &Prepared,
@@ -447,16 +418,55 @@ fn load_method<V: View<ThreadState>>(
     o: Value,
 ) -> Result<Outcome, Stop>
     requires some { 0 < length s.old.frames }
-    requires operands { state.operands 1 (innermost s.old.frames) ≡ o ∷ [] }
-    requires set { o ≢ Unset }
+    requires live { IsLive V.sense v.old }
+    requires safe { Safe V.sense.partial (attr_method p.now s.old n o) (V.sense.heap v.old) }
+    ensures { Moves V.sense (attr_method p.now s.old n o) v.old s.old v.new s.new result }
+{
+    let name = look(v, place_of(s.roots()), n as usize)?;
+    method_by(alloc, v, p, s, o, place_in(name))
+}
+
+/// LOAD_METHOD of a name that is the builtin method of this number, or none of the object's kind.
+fn method_or_attr<V: View<ThreadState>>(
+    alloc: Global,
+    v: &mut V,
+    p: &Prepared,
+    s: &mut ThreadState,
+    n: u32,
+    o: Value,
+    method: Option<u8>,
+) -> Result<Outcome, Stop>
+    requires some { 0 < length s.old.frames }
+    requires live { IsLive V.sense v.old }
+    requires safe { Safe V.sense.partial (kind_method p.now s.old n o method) (V.sense.heap v.old) }
+    ensures { Moves V.sense (kind_method p.now s.old n o method) v.old s.old v.new s.new result }
+{
+    match method {
+        Some(b) => give_two(s, 1, Value::Builtin(b), o),
+        None => attr_method(alloc, v, p, s, n, o),
+    }
+}
+
+/// LOAD_METHOD of a record.
+fn load_method<V: View<ThreadState>>(
+    alloc: Global,
+    v: &mut V,
+    p: &Prepared,
+    s: &mut ThreadState,
+    n: u32,
+    a: Addr,
+) -> Result<Outcome, Stop>
+    requires some { 0 < length s.old.frames }
+    requires operand { state.operands 1 (innermost s.old.frames) ≡ Ref a ∷ [] }
     requires live { IsLive V.sense v.old }
     requires safe { Safe V.sense.partial (steps.step_at p.now s.old (innermost s.old.frames) (drop 1 s.old.frames)
         (Some (LoadMethod n))) (V.sense.heap v.old) }
     ensures { Moves V.sense (steps.step_at p.now s.old (innermost s.old.frames) (drop 1 s.old.frames)
         (Some (LoadMethod n))) v.old s.old v.new s.new result }
 {
-    let name = look(v, place_of(s.roots()), n as usize)?;
-    method_by(alloc, v, p, s, o, place_in(name))
+    let kind = kind(v, a)?;
+    let method = method_of(kind, root_name(p.program(), n));
+    method_or_attr(alloc, v, p, s, n, Value::Ref(a), method)
 }
 
 /// STORE_GLOBAL of a value.
@@ -497,12 +507,12 @@ fn next_of<V: View<ThreadState>>(
     ensures { Moves V.sense (steps.step_at p.now s.old (innermost s.old.frames) (drop 1 s.old.frames)
         (Some (Next place))) v.old s.old v.new s.new result }
 {
-    let got = next_item(alloc, v, a)?;
+    let got = next(alloc, v, a)?;
     next_or_end(alloc, v, p, s, place, Value::Ref(a), got)
 }
 
-/// The step of a thread that has a frame: does the instruction at hand, straight where its operands hold something, or
-/// by its row, and what it leads to.
+/// The step of a thread that has a frame: does the instruction at hand, by a fast path where its operands hold
+/// something, or by its row, and what it leads to.
 pub fn go<V: View<ThreadState>>(
     alloc: Global,
     v: &mut V,
@@ -546,8 +556,8 @@ pub fn go<V: View<ThreadState>>(
             }
         }
         Instr::LoadMethod(n) => {
-            if let Some(o) = operand(s) {
-                return load_method(alloc, v, p, s, n, o);
+            if let Some(Value::Ref(a)) = operand(s) {
+                return load_method(alloc, v, p, s, n, a);
             }
         }
         Instr::Next(place) => {

@@ -5,6 +5,7 @@ ghost use Rattle.py_data.specs.Heap.{value_at};
 ghost use Rattle.py_data.specs.Sense.{Meets, Safe, IsLive};
 ghost use Rattle.py_data.specs.declared.value.Value.TheVariants.{Unset};
 ghost use Rattle.py_frames.specs.declared.next.Next.TheVariants.{Goes};
+ghost use Rattle.py_frames.specs.AttrInstrs as attrs;
 ghost use Rattle.py_frames.specs.Binding.{with_own};
 ghost use Rattle.py_frames.specs.BuildRows as builds;
 ghost use Rattle.py_frames.specs.CallRows as calls;
@@ -129,6 +130,23 @@ fn load_name<S, V: View<S>>(
 {
     let name = root_name(s.program, n);
     py_instrs::load_name_row(alloc, v, s.roots, s.program, place_of(t.names()), n, name)
+}
+
+/// LOAD_METHOD.
+#[tactic(auto, using(py_data::proofs::Rows::row_steps))]
+fn load_method<S, V: View<S>>(
+    alloc: Global,
+    v: &mut V,
+    s: &Site<'_>,
+    n: u32,
+    o: Value,
+) -> Result<Next, Stop>
+    requires live { IsLive V.sense v.old }
+    requires safe { Safe V.sense.partial
+        (attrs.load_method_row {S = S} s.now.roots n (state.root_name s.now.program n) o) (V.sense.heap v.old) }
+    ensures { Meets V.sense (attrs.load_method_row s.now.roots n (state.root_name s.now.program n) o) v.old v.new result }
+{
+    load_method_row(alloc, v, s.roots, n, root_name(s.program, n), o)
 }
 
 /// STORE_NAME.
@@ -372,7 +390,7 @@ pub fn instr_row<V: View<ThreadState>>(
         Instr::LoadAttr(n) => load_attr_row(alloc, v, s.roots, n, at(xs, 0)),
         Instr::StoreAttr(n) => store_attr_row(alloc, v, s.roots, n, at(xs, 0), at(xs, 1)),
         Instr::DelAttr(n) => del_attr_instr(alloc, v, s.roots, n, at(xs, 0)),
-        Instr::LoadMethod(n) => load_method_row(alloc, v, s.roots, n, at(xs, 0)),
+        Instr::LoadMethod(n) => load_method(alloc, v, s, n, at(xs, 0)),
         Instr::LoadItem => load_item_row(alloc, v, s.roots, at(xs, 0), at(xs, 1)),
         Instr::StoreItem => store_item_row(alloc, v, s.roots, at(xs, 0), at(xs, 1), at(xs, 2)),
         Instr::DelItem => del_item_instr(alloc, v, s.roots, at(xs, 0), at(xs, 1)),

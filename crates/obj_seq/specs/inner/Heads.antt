@@ -1,6 +1,6 @@
 -- What code and proofs say to each other: nothing public rests on it.
 -- What one look at a record tells of it, and what an iterator over it comes to. States `docs/LANGUAGE.md`, "Iteration".
-use Rattle.std.specs.Prelude.{◌≡◌, ℕ, ◌+◌, ◌<◌, ◌^◌, ◌==◌, pos, cond, List, [], ◌∷◌, Option, Some, None, IfSome, refl}
+use Rattle.std.specs.Prelude.{◌≡◌, ℕ, ◌+◌, ◌*◌, ◌/◌, ◌<◌, ◌^◌, ◌==◌, pos, not, cond, List, [], ◌∷◌, length, slice_get, Option, Some, None, IfSome, refl}
 use Rattle.py_base.specs.declared.kind.Kind.{Kind}
 use Rattle.py_base.specs.declared.kind.Kind.TheVariants.{Str, List as ListKind, Dict}
 use Rattle.py_data.specs.declared.value.Value.{Value}
@@ -17,6 +17,10 @@ use Rattle.obj_seq.specs.Iter.{pick, has_changed, is_str, go_or_end, byte_or_end
 -- the values of a record that has three
 abbrev pub three_in : Head → Option (Value × Value × Value)
 three_in h = cond (h.count == 3) (Some (h.first, h.second, h.third)) None
+
+-- what an iterator at a place of a dictionary comes to, which had so many pairs
+abbrev pub key_ahead : List Value → ℕ → ℕ → Ahead
+key_ahead vs at count = cond (not (length vs / 2 == count)) Changed (Item (slice_get vs (2 * at)))
 
 -- what an iterator at a place of a record comes to, which began over so many
 abbrev pub ahead_of : Kind → List Value → ℕ → ℕ → Ahead

@@ -2,13 +2,10 @@
 -- their row, and what it gives. States `docs/LANGUAGE.md`, "Instructions".
 use Rattle.std.specs.Prelude.{◌≡◌, ℕ, ◌+◌, false, List, [], ◌∷◌, length, get_or, drop, Option, Some, None, option_map}
 use Rattle.py_base.specs.declared.kind.Kind.{Kind}
-use Rattle.py_base.specs.declared.kind.Kind.TheVariants.{Iter}
 use Rattle.py_data.specs.declared.change.Change.TheVariants as change
 use Rattle.py_data.specs.declared.value.Value.{Value}
 use Rattle.py_data.specs.declared.value.Value.TheVariants.{Unset, Ref, Builtin as BuiltinValue}
 use Rattle.py_data.specs.declared.record.Got.{Got}
-use Rattle.py_data.specs.declared.record.Got.TheVariants.{Raise}
-use Rattle.py_data.specs.Fault.{operand_fault}
 use Rattle.py_data.specs.Looking.{kind_row, look_row}
 use Rattle.py_data.specs.Row.{Row, Ret, Do, Edit, bind}
 use Rattle.py_code.specs.declared.program.Program.{Program}
@@ -17,11 +14,10 @@ use Rattle.obj_builtins.specs.Calls.{call_row}
 use Rattle.obj_class.specs.declared.lookup.Found.{Found}
 use Rattle.obj_class.specs.declared.lookup.Found.TheVariants.{Plain, Bound}
 use Rattle.obj_class.specs.AttrRows.{attr_row, set_attr_row}
-use Rattle.obj_seq.specs.Iter.{next_row}
 use Rattle.obj_threads.specs.declared.answer.Answer.{Answer}
 use Rattle.py_frames.specs.declared.next.Next.{Next}
 use Rattle.py_frames.specs.declared.next.Next.TheVariants.{Goes, Jumps}
-use Rattle.py_frames.specs.AttrInstrs.{loaded_method}
+use Rattle.py_frames.specs.AttrInstrs.{attr_or_method, loaded_method, method_or_attr}
 use Rattle.py_frames.specs.Binding.{Given, plainly, defaulted_row, numbered_row}
 use Rattle.py_frames.specs.CallRows.{answered, record_call}
 use Rattle.py_frames.specs.ClassCalls.{Site, entered_row}
@@ -54,14 +50,6 @@ set_cell a x = Do (Edit a (change.Set 0 x)) (λ u. Ret u)
 
 abbrev pub set_global : {S : Type 0} → ℕ → ℕ → Value → Row S (Unit {0})
 set_global roots g x = bind (look_row roots g) (λ c. set_cell (place_in c) x)
-
--- the next item of an iterator
-abbrev pub item_by : {S : Type 0} → ℕ → Kind → Row S (Got (Option Value))
-item_by a Iter = next_row a
-item_by a _ = Ret (Raise operand_fault)
-
-abbrev pub next_item : {S : Type 0} → ℕ → Row S (Got (Option Value))
-next_item a = bind (kind_row a) (λ k. item_by a k)
 
 -- an attribute, and a change of one, by the number of its name among the roots
 abbrev pub named_attr : {S : Type 0} → ℕ → ℕ → Value → Row S (Got Value)
@@ -135,3 +123,10 @@ found_values o (Bound f) = f ∷ o ∷ []
 -- the step, once the name is known
 abbrev pub method_by : Program → State → Value → ℕ → Row State (Outcome × State)
 method_by p s o name = ended p s 1 (loaded_method (place_of s.roots) o name)
+
+-- the step of a name that is no builtin method, and of one of which it is known whether it is one
+abbrev pub attr_method : Program → State → ℕ → Value → Row State (Outcome × State)
+attr_method p s n o = ended p s 1 (attr_or_method (place_of s.roots) n o)
+
+abbrev pub kind_method : Program → State → ℕ → Value → Option ℕ → Row State (Outcome × State)
+kind_method p s n o b = ended p s 1 (method_or_attr (place_of s.roots) n o b)

@@ -3,8 +3,8 @@ use Rattle.py_step.proofs.FastPaths.{next_is}
 use Rattle.py_step.proofs.Moving.{more_moved, more_safe, part_moved, part_safe, still_safe}
 use Rattle.py_step.proofs.fast.next_of.Goals as goal
 
-pub next_item-requires-clause-safe : goal.next_item-requires-clause-safe
-next_item-requires-clause-safe g c =
+pub next-requires-clause-safe : goal.next-requires-clause-safe
+next-requires-clause-safe g c =
     let law = next_is c.args.p.now c.args.s.now c.args.place c.args.a c.requires.operand in
     part_safe g.V.View.sense _ _ _ law _ c.requires.safe
 
