@@ -3,8 +3,7 @@ use Rattle.std.proofs.Common.{◌≡◌, ℕ, ◌==◌, Bool, true, false, cond,
 use Rattle.std.proofs.lemmas.Bool.{leb-true, eqb-true}
 use Rattle.std.proofs.lemmas.List.{length-reverse, reverse-append}
 use Rattle.py_base.specs.declared.kind.Kind.{Kind}
-use Rattle.py_base.specs.declared.kind.Kind.TheVariants.{Str, Tuple, List as ListKind, Dict, Cell, Function, Class, Instance, Method, Iter, Range, Lock, Thread}
-use Rattle.py_data.specs.declared.value.Addr.{Addr}
+use Rattle.py_base.specs.declared.kind.Kind.TheVariants.{Dict}
 use Rattle.py_data.specs.declared.value.Value.{Value}
 use Rattle.py_data.specs.declared.value.Value.TheVariants.{Unset, None as NoneValue, Bool as BoolValue, Int, Ref, Builtin}
 use Rattle.py_data.specs.declared.record.Got.{Got}
@@ -44,7 +43,7 @@ use Rattle.py_frames.specs.Raising.{raise_row, give, count_fault}
 use Rattle.py_frames.specs.Sound.{rules_of}
 use Rattle.py_frames.proofs.Given.{Context, context_stays, at_ref, there_of}
 use Rattle.py_frames.proofs.Making.{empty_dict, holds_made}
-use Rattle.py_frames.proofs.MemberHolds.{PushesTwo, after_kind}
+use Rattle.py_frames.proofs.MemberHolds.{PushesTwo}
 use Rattle.py_frames.proofs.Raised.{Keeps, Leads, Pushes, raises, goes_one, leads_to, then_holds, after_looks}
 
 reversed_every : {A : Type 0} (P : A → Type 0) (xs : List A) → Every P xs → Every P (reverse xs)

@@ -3,6 +3,7 @@ mod Given
 mod Raised
 mod LocalHolds
 mod GlobalHolds
+mod MethodNumbers
 mod MemberHolds
 mod Making
 mod BuildHolds

@@ -4,6 +4,7 @@ use Rattle.std.specs.Option.{IfSome}
 use Rattle.std.proofs.lemmas.Bool.{leb-true}
 use Rattle.py_base.specs.declared.kind.Kind.{Kind}
 use Rattle.py_base.specs.declared.kind.Kind.TheVariants.{Str, Tuple, List as ListKind, Dict, Cell, Function, Class, Instance, Method, Iter, Range, Lock, Thread}
+use Rattle.py_base.specs.Numbers.{builtin_count}
 use Rattle.py_data.specs.declared.value.Addr.{Addr}
 use Rattle.py_data.specs.declared.value.Value.{Value}
 use Rattle.py_data.specs.declared.value.Value.TheVariants.{Unset, None as NoneValue, Bool as BoolValue, Int, Ref, Builtin}
@@ -53,6 +54,7 @@ use Rattle.py_frames.specs.ItemRows.{byte_row, byte_item_row, text_item, list_it
 use Rattle.py_frames.specs.Raising.{place_in, give}
 use Rattle.py_frames.specs.Sound.{rules_of}
 use Rattle.py_frames.proofs.Given.{Context, at_ref, ref_at, there_of}
+use Rattle.py_frames.proofs.MethodNumbers.{method_below}
 use Rattle.py_frames.proofs.Raised.{Keeps, Leads, Pushes, Passes, raises, leads_to, gives, finishes, then_holds, after_looks, after_root}
 
 -- two values are pushed
@@ -442,16 +444,16 @@ module _ {S : Type 0} (p : Program) (count roots : ℕ) (stands : Heap → S →
         (subst (λ z. IfSome z (IsGood (rules_of p count) h c.order)) (sym q) good)))
 
     method_or_attr_holds : (n : ℕ) (o : Value) (b : Option ℕ) (h : Heap) → Context p count roots h → Names p n →
-        PushesTwo e → IsItem h o → Ok (method_or_attr roots n o b) h
+        PushesTwo e → IsItem h o → IfSome b (λ b. b < builtin_count) → Ok (method_or_attr roots n o b) h
     unfolding method_or_attr
-    method_or_attr_holds n o (Some b) h c w t i = leads_to p count roots stands e f (Goes (Builtin b ∷ o ∷ [])) h
-        (t.0, sym t.1, (tt, (i.0, tt)))
-    method_or_attr_holds n o None h c w t i = attr_or_method_holds n o h c w t i
+    method_or_attr_holds n o (Some b) h c w t i l = leads_to p count roots stands e f (Goes (Builtin b ∷ o ∷ [])) h
+        (t.0, sym t.1, (l, (i.0, tt)))
+    method_or_attr_holds n o None h c w t i l = attr_or_method_holds n o h c w t i
 
     pub load_method_holds : (n : ℕ) (text : List ℕ) (o : Value) (h : Heap) → Context p count roots h → Names p n →
         PushesTwo e → IsItem h o → Ok (load_method_row roots n text o) h
     unfolding load_method_row
     load_method_holds n text (Ref a) h c w t i =
-        after_kind p count roots stands (Fits p e f) a (λ k. method_or_attr roots n (Ref a) (method_of k text)) h c i
-        (λ k q. method_or_attr_holds n (Ref a) (method_of k text) h c w t i)
+        after_kind (Fits p e f) a (λ k. method_or_attr roots n (Ref a) (method_of k text)) h c i
+        (λ k q. method_or_attr_holds n (Ref a) (method_of k text) h c w t i (method_below k text))
     load_method_holds n text o h c w t i = attr_or_method_holds n o h c w t i

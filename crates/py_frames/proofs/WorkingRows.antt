@@ -1,7 +1,7 @@
 -- Instructions that call nothing never wait.
 use Rattle.std.proofs.Common.{◌≡◌, ℕ, zero, suc, Bool, true, false, cond, List, [], ◌∷◌, Option, Some, None}
 use Rattle.py_base.specs.declared.kind.Kind.{Kind}
-use Rattle.py_base.specs.declared.kind.Kind.TheVariants.{Function, Class, Instance, Iter}
+use Rattle.py_base.specs.declared.kind.Kind.TheVariants.{Function, Class, Instance}
 use Rattle.py_data.specs.declared.value.Addr.{Addr}
 use Rattle.py_data.specs.declared.value.Value.{Value}
 use Rattle.py_data.specs.declared.value.Value.TheVariants.{Unset, None as NoneValue, Bool as BoolValue, Int, Ref, Builtin}
@@ -16,6 +16,7 @@ use Rattle.py_code.specs.declared.program.Program.{Program}
 use Rattle.obj_class.specs.declared.lookup.Found.{Found}
 use Rattle.obj_class.specs.declared.lookup.Found.TheVariants.{Plain, Bound}
 use Rattle.obj_class.specs.Exceptions.{fault_row}
+use Rattle.obj_class.specs.Named.{method_of}
 use Rattle.obj_threads.specs.Quiet.{Never}
 use Rattle.py_frames.specs.declared.state.Frame.{Frame}
 use Rattle.py_frames.specs.declared.next.Next.{Next}
