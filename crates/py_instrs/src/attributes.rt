@@ -219,14 +219,7 @@ fn record_method<S, V: View<S>>(
     ensures { Meets V.sense (load_method_row roots.0 n text.now (Ref a)) v.old v.new result }
 {
     let kind = kind(v, a)?;
-    method_or_attr(
-        alloc,
-        v,
-        roots,
-        n,
-        Value::Ref(a),
-        method_of(kind, text),
-    )
+    method_or_attr(alloc, v, roots, n, Value::Ref(a), method_of(kind, text))
 }
 
 /// LOAD_METHOD, of the name that is the root of number `n` and has this text.

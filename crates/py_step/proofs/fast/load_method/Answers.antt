@@ -26,7 +26,7 @@ pub method_or_attr-requires-clause-safe : goal.method_or_attr-requires-clause-sa
 method_or_attr-requires-clause-safe g c =
     let law = load_method_is c.args.p.now c.args.s.now c.args.n c.args.a c.requires.operand in
     let text = c.root_name.ensures ∙ ap (λ q. state.root_name q c.args.n) c.program.ensures in
-    let method = c.method_of.ensures ∙ ap (method_of c.in_ok-kind.kind) text in
+    let method = c.method_of-method.ensures ∙ ap (method_of c.in_ok-kind.kind) text in
     safe_as g.V.View.sense _ _ _ (ap (kind_method c.args.p.now c.args.s.now c.args.n (Ref c.args.a)) (sym method))
     (more_safe g.V.View.sense _ _ _ law g.met.V.View.lawful _ _ _ c.requires.safe c.in_ok-kind.ensures)
 
@@ -34,7 +34,7 @@ pub returns : goal.returns
 returns g c =
     let law = load_method_is c.args.p.now c.args.s.now c.args.n c.args.a c.requires.operand in
     let text = c.root_name.ensures ∙ ap (λ q. state.root_name q c.args.n) c.program.ensures in
-    let method = c.method_of.ensures ∙ ap (method_of c.in_ok-kind.kind) text in
+    let method = c.method_of-method.ensures ∙ ap (method_of c.in_ok-kind.kind) text in
     more_moved g.V.View.sense _ _ _ law c.args.s.now _ _ _ _ _ _ c.in_ok-kind.ensures
     (moves_as g.V.View.sense _ _ _ _ _ _ _ (ap (kind_method c.args.p.now c.args.s.now c.args.n (Ref c.args.a))
     (sym method)) c.method_or_attr.ensures)
