@@ -142,7 +142,7 @@ fn rerun(
 ) -> Result<(Option<u64>, MemSink), test::Fail> {
     assert!(rt; script.len() <= SCRIPT_LIMIT);
     let program = compile_text(alloc, script).map_err(|_| "no program")?;
-    let client = PyClient::new(program);
+    let client = PyClient::new(alloc, program);
     replayed(rt, alloc, &client, history, names)
 }
 

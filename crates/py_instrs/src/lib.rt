@@ -15,6 +15,7 @@ pub use attributes::{
     del_attr_instr, found_method, load_attr_row, load_method_row, store_attr_row,
 };
 pub use builds::{build_dict_row, build_row, iter_instr, next_instr, unpack_row};
+pub use builtins::builtin_named;
 pub use globals::{
     bound_row, del_global_row, del_name_row, load_global_row, load_name_row, store_global_row,
     store_name_row,

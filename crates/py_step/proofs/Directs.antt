@@ -146,7 +146,7 @@ gives : (roots : ℕ) (row : Row State (Got Value)) (x : Value) → row ≡ Ret 
 unfolding bind give
 gives roots row x e = ap (λ r. bind r (give roots)) e
 
-valued : (roots : ℕ) (c : Constant) (x : Value) → constant_value c ≡ Some x →
+pub valued : (roots : ℕ) (c : Constant) (x : Value) → constant_value c ≡ Some x →
     const_row {S = State} roots c ≡ Ret (Goes (x ∷ []))
 unfolding const_row
 valued roots NoneConstant x e = let q : NoneValue ≡ x = cc in ap (λ x. Ret (Goes (x ∷ []))) q

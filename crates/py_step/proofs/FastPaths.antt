@@ -1,5 +1,5 @@
 -- Instructions that go by a fast path: their step is a part of its row, and what follows.
-use Rattle.std.proofs.Common.{arith, ◌≡◌, ℕ, ◌+◌, ◌-◌, ◌<◌, Bool, true, false, cond, ltb, ◌==◌, ◌||◌, List, [], ◌∷◌, ◌++◌, append_assoc, length, get_or, take, drop, drop_of_length-le, drop-drop, Option, Some, None, option_map, Result, Ok, Err, refl, sym, ap, ◌∙◌}
+use Rattle.std.proofs.Common.{arith, ◌≡◌, ℕ, ◌+◌, ◌-◌, ◌<◌, Bool, true, false, cond, ltb, ◌==◌, ◌||◌, List, [], ◌∷◌, ◌++◌, append_assoc, length, get_or, take, drop, drop_of_length-le, drop-drop, Option, Some, None, option_map, Result, Ok, Err, refl, sym, subst, ap, ◌∙◌}
 use Rattle.std.proofs.Math.Dec.{eqb-suc-zero}
 use Rattle.std.proofs.lemmas.Bool.{lt-ltb}
 use Rattle.std.proofs.lemmas.List.{length-drop, take-append-drop, take_all}
@@ -14,11 +14,14 @@ use Rattle.py_data.specs.declared.record.Got.TheVariants.{Is, Raise}
 use Rattle.py_data.specs.declared.value.Value.{Value}
 use Rattle.py_data.specs.declared.value.Value.TheVariants.{Unset, None as NoneValue, Bool as Truth, Int, Ref, Builtin}
 use Rattle.py_data.specs.Fault.{depth_fault, operand_fault}
-use Rattle.py_data.specs.Heap.{value_at}
+use Rattle.py_data.proofs.Steps.{safe_first}
+use Rattle.py_data.specs.Heap.{Heap, value_at}
 use Rattle.py_data.specs.Row.{Row, Ret, Do, Read, bind}
-use Rattle.py_data.specs.Sense.{Sense}
+use Rattle.py_data.specs.Sense.{Sense, Safe}
+use Rattle.py_code.specs.declared.instr.Constant.{Constant}
+use Rattle.py_code.specs.declared.instr.Constant.TheVariants.{Root}
 use Rattle.py_code.specs.declared.instr.Instr.{Instr}
-use Rattle.py_code.specs.declared.instr.Instr.TheVariants.{Call, CallMethod, LoadAttr, LoadGlobal, LoadItem, LoadMethod, Next as NextInstr, StoreAttr, StoreGlobal, StoreItem}
+use Rattle.py_code.specs.declared.instr.Instr.TheVariants.{Const, Call, CallMethod, LoadAttr, LoadGlobal, LoadItem, LoadMethod, Next as NextInstr, StoreAttr, StoreGlobal, StoreItem}
 use Rattle.py_code.specs.declared.program.Program.{Program}
 use Rattle.py_data.specs.Looking.{kind_row, look_row, size_row}
 use Rattle.lock_run.specs.declared.client.Outcome.{Outcome}
@@ -38,18 +41,20 @@ use Rattle.py_frames.specs.Binding.{Given, bound_row, bound_to, defaulted_row, n
 use Rattle.py_frames.specs.BuildRows.{next_instr, next_or_end}
 use Rattle.py_frames.specs.CallRows.{answered, builtin_call, function_call, keyed_call, keys_row, record_call, value_call}
 use Rattle.py_frames.specs.ClassCalls.{entered_row, MOST_FRAMES}
-use Rattle.py_frames.specs.GlobalRows.{builtin_named, load_cell_row, load_global_row, set_cell_row, store_global_row}
+use Rattle.py_frames.specs.GlobalRows.{builtin_named, load_cell_row, load_global_row, set_cell_row, store_global_row, unbound_row}
 use Rattle.py_frames.specs.GlobalRows.{bound_row as named_row}
+use Rattle.py_frames.specs.LocalRows.{const_row}
 use Rattle.py_frames.specs.ItemRows.{item_of, load_item_row, set_item, store_item_row}
 use Rattle.py_frames.specs.Raising.{place_in, place_of, raise_row, give, done, count_in, values_row}
 use Rattle.py_frames.specs.State.{State, advanced, code_at, operands, pops, root_name, settled, with_frames}
 use Rattle.py_frames.specs.Steps.{given_in, guarded_row, has_unset, instr_row, is_unset, step_at, wanted}
 use Rattle.py_states.specs.Innermost.{innermost, settled_in, Settles}
 use Rattle.py_step.specs.inner.FastPath.{arguments, attr_method, called, called_as, called_builtin, called_code, called_with, code_row, ending, ended, found_values, global_value, item_end, kind_method, method_by, named_attr, set_global, set_named_attr, site, value_of, IsCallee}
+use Rattle.py_step.specs.inner.Directly.{constant_value}
 use Rattle.py_step.specs.inner.Moves.{Moves}
 use Rattle.py_step.specs.declared.calls.Callee.{Callee}
 use Rattle.py_step.specs.declared.calls.Callee.TheVariants as callee
-use Rattle.py_step.proofs.Directs.{none_of}
+use Rattle.py_step.proofs.Directs.{none_of, valued}
 use Rattle.py_step.proofs.Moving.{bind_bind, give_moved}
 
 -- ---- what an answer leads to
@@ -136,6 +141,31 @@ pub unbound_at : (p q : Program) (s : State) (g a : ℕ) (name : List ℕ) → q
     ended p s 0 (bound_by p (place_of s.roots) (root_name p g) Unset) ≡ bind (bound_by q a name Unset) (ending p s 0)
 unbound_at p q s g a name e f d = sym (λ i. ended p s 0 (bound_by (e i) (d i) ((f ∙ ap (λ r. root_name r g) e) i) Unset))
 
+-- what stands for it was found
+pub builtin_is : (p : Program) (a : ℕ) (name : List ℕ) (c : Constant) → builtin_named p name ≡ Some c →
+    bound_by {S = State} p a name Unset ≡ const_row a c
+unfolding named_row unbound_row
+builtin_is p a name c e = ap (λ o. named_row a name o Unset) e
+
+-- a root, at the place of the roots as it was told
+pub root_is : (p : Program) (s : State) (n a : ℕ) → a ≡ place_of s.roots →
+    ended p s 0 (const_row (place_of s.roots) (Root n)) ≡ bind (look_row a n) (λ x. ending p s 0 (Goes (x ∷ [])))
+unfolding const_row bind
+root_is p s n a e = bind_bind (look_row (place_of s.roots) n) (λ x. Ret (Goes (x ∷ []))) (ending p s 0)
+    ∙ ap (λ b. bind (look_row b n) (λ x. ending p s 0 (Goes (x ∷ [])))) (sym e)
+
+pub root_safe : (q : Bool) (n a b : ℕ) (h : Heap) → a ≡ b → Safe q (const_row {S = State} b (Root n)) h →
+    Safe q (look_row {S = State} a n) h
+unfolding const_row
+root_safe q n a b h e z = subst (λ d. Safe q (look_row {S = State} d n) h) (sym e)
+    (safe_first q (look_row b n) (λ x. Ret (Goes (x ∷ []))) h z)
+
+-- any other constant
+pub constant_is : (p : Program) (s : State) (a : ℕ) (c : Constant) (x : Value) → constant_value c ≡ Some x →
+    ended p s 0 (const_row a c) ≡ ending p s 0 (Goes (x ∷ []))
+unfolding bind
+constant_is p s a c x e = ap (ended p s 0) (valued a c x e)
+
 pub bound_value : (p : Program) (s : State) (a : ℕ) (name : List ℕ) (x : Value) → (x ≡ Unset → ⊥) →
     ended p s 0 (bound_by p a name x) ≡ ending p s 0 (Goes (x ∷ []))
 unfolding named_row bind
@@ -170,17 +200,26 @@ module _ (p : Program) (s : State) where
   abbrev step : Instr → Row State (Outcome × State)
   step i = step_at p s top (drop 1 s.frames) (Some i)
 
+  -- it goes by its row
+  by_whole_row : (n : ℕ) (i : Instr) (xs : List Value) → pops p top i ≡ n → operands n top ≡ xs →
+      has_unset (wanted i xs) ≡ false → step i ≡ ended p s n (instr_row (site p s) top xs i)
+  unfolding step_at guarded_row
+  by_whole_row n i xs e q h =
+      ap (λ m. bind (guarded_row (site p s) top (operands m top) i)
+      (λ next. Ret (settled p s m top (drop 1 s.frames) next))) e
+      ∙ (ap (λ ys. ended p s n (guarded_row (site p s) top ys i)) q
+      ∙ ap (λ c. ended p s n (cond c (raise_row (place_of s.roots) operand_fault) (instr_row (site p s) top xs i))) h)
+
   -- its part, and what is made of it
   parted : {A : Type 0} (n : ℕ) (i : Instr) (xs : List Value) (part : Row State A) (b : A → Row State Next) →
       pops p top i ≡ n → operands n top ≡ xs → has_unset (wanted i xs) ≡ false →
       instr_row (site p s) top xs i ≡ bind part b → step i ≡ bind part (λ a. ended p s n (b a))
-  unfolding step_at guarded_row
   parted n i xs part b e q h w =
-      ap (λ m. bind (guarded_row (site p s) top (operands m top) i)
-      (λ next. Ret (settled p s m top (drop 1 s.frames) next))) e
-      ∙ (ap (λ ys. ended p s n (guarded_row (site p s) top ys i)) q
-      ∙ (ap (λ c. ended p s n (cond c (raise_row (place_of s.roots) operand_fault) (instr_row (site p s) top xs i))) h
-      ∙ (ap (ended p s n) w ∙ bind_bind part b (ending p s n))))
+      by_whole_row n i xs e q h ∙ (ap (ended p s n) w ∙ bind_bind part b (ending p s n))
+
+  pub const_is : (c : Constant) → step (Const c) ≡ ended p s 0 (const_row (place_of s.roots) c)
+  unfolding instr_row
+  const_is c = by_whole_row 0 (Const c) [] refl (none_of top) refl
 
   -- the place of the roots as it was told
   module _ (a : ℕ) (e : a ≡ place_of s.roots) where

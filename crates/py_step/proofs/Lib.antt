@@ -9,3 +9,4 @@ mod CallWaits
 mod StepWaits
 mod Directs
 mod FastPaths
+mod BuiltinLists

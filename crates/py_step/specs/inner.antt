@@ -4,3 +4,4 @@ pub mod Moves
 pub mod Operators
 pub mod Directly
 pub mod FastPath
+pub mod Builtins

@@ -91,7 +91,7 @@ fn order(op: u8, i: i64, j: i64) -> Option<bool>
 }
 
 /// The value of a constant; a root's stands in the heap.
-fn value_of(c: Constant) -> Option<Value>
+pub fn value_of(c: Constant) -> Option<Value>
     ensures { result ≡ constant_value c }
 {
     match c {
@@ -187,6 +187,7 @@ fn two_numbers(s: &ThreadState) -> Option<(i64, i64)>
 }
 
 /// BINARY and INPLACE of two numbers.
+#[inline(always)]
 fn number(s: &mut ThreadState, op: u8) -> bool
     ensures binary { IsAtOnce s.old (Binary op) result s.new }
     ensures in_place { IsAtOnce s.old (InPlace op) result s.new }

@@ -53,12 +53,12 @@ pub struct PyClient {
 impl PyClient {
     ghost use Rattle.py_step.specs.Client.{program_in};
 
-    pub fn new(program: Verified) -> PyClient
+    pub fn new(alloc: Global, program: Verified) -> PyClient
         ensures program { program_in result ≡ program }
         ensures first { IsSoundFirst (prog_of program) (Sound program) }
     {
         PyClient {
-            program: Prepared::new(program),
+            program: Prepared::new(alloc, program),
         }
     }
 }

@@ -4,20 +4,24 @@ ghost use Rattle.std.specs.Prelude.{◌≡◌, ◌≢◌, ◌<◌, [], ◌∷◌
 ghost use Rattle.py_data.specs.declared.stop.Stop.TheVariants.{OutOfMemory};
 ghost use Rattle.py_data.specs.declared.value.Value.TheVariants.{Ref, Unset};
 ghost use Rattle.py_data.specs.Sense.{Meets, Safe, IsLive};
-ghost use Rattle.py_code.specs.declared.instr.Instr.TheVariants.{LoadAttr, LoadGlobal, LoadItem, LoadMethod, Next, StoreAttr, StoreGlobal, StoreItem};
+ghost use Rattle.py_code.specs.declared.instr.Constant.TheVariants.{Root};
+ghost use Rattle.py_code.specs.declared.instr.Instr.TheVariants.{Const, LoadAttr, LoadGlobal, LoadItem, LoadMethod, Next, StoreAttr, StoreGlobal, StoreItem};
 ghost use Rattle.py_code.specs.declared.program.Program.{Program as Prog};
 ghost use Rattle.py_frames.specs.declared.next.Next.TheVariants.{Goes, Jumps};
 ghost use Rattle.py_frames.specs.AttrInstrs.{found_method};
 ghost use Rattle.py_frames.specs.BuildRows as builds;
 ghost use Rattle.py_frames.specs.GlobalRows as globals;
+ghost use Rattle.py_frames.specs.LocalRows as locals;
 ghost use Rattle.py_frames.specs.Raising as raising;
 ghost use Rattle.py_frames.specs.State as state;
 ghost use Rattle.py_frames.specs.Steps as steps;
 ghost use Rattle.py_states.specs.Innermost.{innermost, settled_in, Settles};
+ghost use Rattle.py_step.specs.inner.Directly.{constant_value};
 ghost use Rattle.py_step.specs.inner.Moves.{Moves};
 ghost use Rattle.py_step.specs.inner.Operators.{HasOperator};
 ghost use Rattle.py_step.specs.inner.FastPath.{attr_method, ended, global_value, found_values, item_end, kind_method, method_by, named_attr, set_cell, set_global, set_named_attr};
 
+use crate::at_once::value_of;
 use crate::calls::{call, call_method, find_callee};
 use crate::ends::{done, give_none, give_one, give_two, given, jump, raised, settle};
 use crate::place::place_of;
@@ -26,7 +30,7 @@ use crate::step::go_by_row;
 use lock_run::Outcome;
 use obj_class::{Found, attr, find_attr, method_of, set_attr};
 use obj_seq::next;
-use py_code::Instr;
+use py_code::{Constant, Instr};
 use py_data::{Addr, Got, Stop, Value, View, kind, look};
 use py_instrs::{bound_row, item_of, set_item};
 use py_parts::{place_in, root_name};
@@ -172,10 +176,61 @@ fn next_or_end<V: View<ThreadState>>(
     }
 }
 
-/// A global name holds nothing: the builtin of that name is pushed, or the exception is raised.
+/// The number of a constant that is a root.
+fn root_in(c: Constant) -> u32
+    requires { constant_value c ≡ None }
+    ensures { c ≡ Root result }
+{
+    match c {
+        Constant::Root(n) => n,
+        Constant::None | Constant::Truth(_) | Constant::Int(_) | Constant::Builtin(_) => {
+            unreachable!()
+        }
+    }
+}
+
+/// A root is pushed.
+fn give_root<V: View<ThreadState>>(
+    v: &mut V,
+    p: &Prepared,
+    s: &mut ThreadState,
+    n: u32,
+) -> Result<Outcome, Stop>
+    requires some { 0 < length s.old.frames }
+    requires live { IsLive V.sense v.old }
+    requires safe { Safe V.sense.partial (locals.const_row {S = state.State} (raising.place_of s.old.roots) (Root n))
+        (V.sense.heap v.old) }
+    ensures { Moves V.sense (ended p.now s.old 0 (locals.const_row (raising.place_of s.old.roots) (Root n)))
+        v.old s.old v.new s.new result }
+{
+    let x = look(v, place_of(s.roots()), n as usize)?;
+    give_one(s, 0, x)
+}
+
+/// A constant is pushed.
+fn give_constant<V: View<ThreadState>>(
+    v: &mut V,
+    p: &Prepared,
+    s: &mut ThreadState,
+    c: Constant,
+) -> Result<Outcome, Stop>
+    requires some { 0 < length s.old.frames }
+    requires live { IsLive V.sense v.old }
+    requires safe { Safe V.sense.partial (locals.const_row {S = state.State} (raising.place_of s.old.roots) c)
+        (V.sense.heap v.old) }
+    ensures { Moves V.sense (ended p.now s.old 0 (locals.const_row (raising.place_of s.old.roots) c))
+        v.old s.old v.new s.new result }
+{
+    match value_of(c) {
+        Some(value) => give_one(s, 0, value),
+        None => give_root(v, p, s, root_in(c)),
+    }
+}
+
+/// A global name holds nothing, and no builtin was found for it: its row pushes one, or raises the exception.
 #[cold]
 #[inline(never)]
-fn unbound<V: View<ThreadState>>(
+fn unbound_by_row<V: View<ThreadState>>(
     alloc: Global,
     v: &mut V,
     p: &Prepared,
@@ -195,6 +250,29 @@ fn unbound<V: View<ThreadState>>(
     let name = root_name(program, g);
     let next = bound_row(alloc, v, place_of(s.roots()), program, name, Value::Unset)?;
     settle(p, s, 0, next)
+}
+
+/// A global name holds nothing: the builtin of that name is pushed, or the exception is raised.
+fn unbound<V: View<ThreadState>>(
+    alloc: Global,
+    v: &mut V,
+    p: &Prepared,
+    s: &mut ThreadState,
+    g: u32,
+) -> Result<Outcome, Stop>
+    requires some { 0 < length s.old.frames }
+    requires live { IsLive V.sense v.old }
+    requires safe { let name = state.root_name p.now g in Safe V.sense.partial
+        (globals.bound_row {S = state.State} (raising.place_of s.old.roots) name (globals.builtin_named p.now name) Unset)
+        (V.sense.heap v.old) }
+    ensures { let name = state.root_name p.now g in Moves V.sense (ended p.now s.old 0
+        (globals.bound_row (raising.place_of s.old.roots) name (globals.builtin_named p.now name) Unset))
+        v.old s.old v.new s.new result }
+{
+    match p.builtin(g) {
+        Some(c) => give_constant(v, p, s, c),
+        None => unbound_by_row(alloc, v, p, s, g),
+    }
 }
 
 /// A global name's value is pushed, or, where it holds nothing, what stands for it.
@@ -219,6 +297,23 @@ fn bound<V: View<ThreadState>>(
         Value::Unset => unbound(alloc, v, p, s, g),
         _ => give_one(s, 0, x),
     }
+}
+
+/// CONST of a root; the other constants are pushed at once.
+fn constant<V: View<ThreadState>>(
+    v: &mut V,
+    p: &Prepared,
+    s: &mut ThreadState,
+    c: Constant,
+) -> Result<Outcome, Stop>
+    requires some { 0 < length s.old.frames }
+    requires live { IsLive V.sense v.old }
+    requires safe { Safe V.sense.partial (steps.step_at p.now s.old (innermost s.old.frames) (drop 1 s.old.frames)
+        (Some (Const c))) (V.sense.heap v.old) }
+    ensures { Moves V.sense (steps.step_at p.now s.old (innermost s.old.frames) (drop 1 s.old.frames) (Some (Const c)))
+        v.old s.old v.new s.new result }
+{
+    give_constant(v, p, s, c)
 }
 
 /// LOAD_GLOBAL.
@@ -529,6 +624,7 @@ pub fn go<V: View<ThreadState>>(
         s.old v.new s.new result }
 {
     match i {
+        Instr::Const(c) => return constant(v, p, s, c),
         Instr::LoadGlobal(g) => return load_global(alloc, v, p, s, g),
         Instr::StoreGlobal(g) => {
             if let Some(x) = operand(s) {

@@ -82,6 +82,9 @@ pub fn step_at_once(p: &Program, s: &mut ThreadState) -> bool
     if s.dying().is_some() {
         return false;
     }
+    if !s.has_frame() {
+        unreachable!();
+    }
     match instr_at(p, s) {
         Some(i) => do_at_once(s, i),
         None => false,
@@ -142,6 +145,9 @@ pub fn step_row<V: View<ThreadState>>(
 {
     if let Some(d) = s.dying() {
         return die(alloc, v, s, d);
+    }
+    if !s.has_frame() {
+        unreachable!();
     }
     match instr_at(p.program(), s) {
         Some(i) => go(alloc, v, p, s, i),

@@ -103,6 +103,6 @@ pub fn written_again(
         return Ok(None);
     };
     let input = Vec::from_slice(alloc, input)?;
-    let client = PyClient::new(program);
+    let client = PyClient::new(alloc, program);
     Ok(written_by(alloc, &client, input, history))
 }

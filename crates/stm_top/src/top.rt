@@ -74,7 +74,7 @@ fn run_text<
             return nothing_ran(alloc, Answer::OutOfMemory, outside);
         }
     };
-    let client = PyClient::new(program);
+    let client = PyClient::new(alloc, program);
     run_threads(rt, alloc, &client, options, outside, gate)
 }
 

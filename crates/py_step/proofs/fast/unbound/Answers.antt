@@ -1,19 +1,18 @@
-use Rattle.std.proofs.Common.{◌∙◌, ap}
+use Rattle.std.proofs.Common.{ap}
 use Rattle.py_frames.specs.Raising as raising
-use Rattle.py_step.proofs.FastPaths.{unbound_at}
-use Rattle.py_step.proofs.Moving.{more_moved, part_moved, settle_moved}
+use Rattle.py_frames.specs.State as state
+use Rattle.py_step.specs.inner.FastPath.{ended}
+use Rattle.py_step.proofs.FastPaths.{builtin_is}
+use Rattle.py_step.proofs.Moving.{moves_as, safe_as}
 use Rattle.py_step.proofs.fast.unbound.Goals as goal
 
-pub returns-in_err-next : goal.returns-in_err-next
-returns-in_err-next g c =
-    let law = unbound_at c.args.p.now _ c.args.s.now c.args.g _ _
-    c.program-program.ensures c.root_name-name.ensures (c.place_of.ensures ∙ ap raising.place_of c.roots.ensures) in
-    part_moved g.V.View.sense _ _ _ law c.args.s.now _ _ _ _ c.in_err-next.ensures c.from_residual.ensures.1
+pub give_constant-requires-clause-safe : goal.give_constant-requires-clause-safe
+give_constant-requires-clause-safe g c = safe_as g.V.View.sense _ _ _ (builtin_is c.args.p.now
+    (raising.place_of c.args.s.now.roots) (state.root_name c.args.p.now c.args.g) c.in-Some.c c.in-Some.ensures)
+    c.requires.safe
 
-pub returns : goal.returns
-returns g c =
-    let law = unbound_at c.args.p.now _ c.args.s.now c.args.g _ _
-    c.program-program.ensures c.root_name-name.ensures (c.place_of.ensures ∙ ap raising.place_of c.roots.ensures) in
-    more_moved g.V.View.sense _ _ _ law c.args.s.now _ _ _ _ _ _ c.in_ok-next.ensures
-    (settle_moved g.V.View.sense c.args.p.now c.args.s.now 0 _ _ _ _ c.requires.some c.settle.ensures.ok c.settle.ensures.cause
-    c.settle.ensures.err)
+pub returns-in-Some : goal.returns-in-Some
+returns-in-Some g c =
+    moves_as g.V.View.sense _ _ _ _ _ _ _ (ap (ended c.args.p.now c.args.s.now 0) (builtin_is c.args.p.now
+    (raising.place_of c.args.s.now.roots) (state.root_name c.args.p.now c.args.g) c.in-Some.c c.in-Some.ensures))
+    c.give_constant.ensures
