@@ -1,5 +1,5 @@
 //! Pages of words that segments share, and their extents.
-ghost use Rattle.std.specs.Prelude.{◌≡◌, ℕ, ◌+◌, ◌-◌, ◌*◌, ◌/◌, ◌%◌, ◌<◌, ◌≤◌, ◌^◌, true, [], length, IfSome, IfNone, IfOk, OnOk, OnErr};
+ghost use Rattle.std.specs.Prelude.{◌≡◌, ℕ, ◌+◌, ◌-◌, ◌*◌, ◌/◌, ◌%◌, ◌<◌, ◌≤◌, ◌^◌, ◌⊎◌, true, false, [], length, IfSome, IfNone, IfOk, OnOk, OnErr};
 ghost use Rattle.std.specs.Prelude.{vec_capacity};
 ghost use Rattle.page_table.specs.Pages.{Lies, IsTable, limit, new_table, over, after_open, after_write, after_push, after_restore};
 ghost use Rattle.page_table.specs.Reserving.{Reserves, after_give_back};
@@ -189,6 +189,21 @@ impl Pages {
             return None;
         }
         Some(self.sheets[k as usize].run(&self.shared, from, size))
+    }
+
+    /// The words of a segment from a place on, where they lie in one page of its own, which is found once.
+    pub fn own_run(&self, k: u8, place: u32, n: u32) -> Option<&[u64]>
+        requires segment { k < (table_of self.now).segments }
+        ensures words { IfSome result (λ s. IsRun ((table_of self.now).word k) place n s.now) }
+        ensures own { IfSome result (λ s. (table_of self.now).own k (place / 512) ≡ true) }
+        ensures page { IfSome result (λ s. place % 512 + n ≤ 512) }
+        ensures none { IfNone result (((table_of self.now).own k (place / 512) ≡ false) ⊎ (512 < place % 512 + n)) }
+    {
+        let from = place as usize;
+        if from % 512 + n as usize > 512 {
+            return None;
+        }
+        self.sheets[k as usize].own_run(from, n as usize)
     }
 
     /// Whether a segment has a page of its own.
