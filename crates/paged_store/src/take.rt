@@ -54,7 +54,7 @@ fn open_extents(pages: &mut Pages, k: u8, extents: &[Extent]) -> Result<(), NoMe
 }
 
 /// Takes extents of three classes, for which it answers their places, or none of them. For class 0 no extent is
-/// taken, and the place is 0.
+/// taken, and the place is any.
 pub(crate) fn take(
     pages: &mut Pages,
     draft: &mut Draft,
