@@ -29,10 +29,6 @@ noted_next w place j x old now new e f ex = f
     ∙ append_assoc old (listed j (note_of w place)) (note_of w place j ∷ [])
     ∙ ap (λ n. with_notes w place n old) (let z : suc j ≡ j + 1 = omega arith in z)
 
--- at want of memory none is
-pub none_noted : (w : Words) (place n : ℕ) (old new : List Note) → new ≡ old → NotedSome w place n old new
-none_noted w place n old new e = record { count = 0; within = omega arith; is = e ∙ sym (append-nil old) }
-
 -- ---- one change after another
 
 pub same_then : (k : ℕ) (a b c : Desk) → SameBut k a b → SameBut k b c → SameBut k a c
