@@ -4,3 +4,4 @@ mod Keeping
 mod ListsLemmas
 pub mod CountingLemmas
 mod LayingLemmas
+mod CountedLemmas

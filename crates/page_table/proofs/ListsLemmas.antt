@@ -190,7 +190,7 @@ pub read_shelf : (shelves : List Shelf) (c : ℕ) (x : Shelf) → c < length she
     → x ≡ shelf_at shelves c
 read_shelf shelves c x within read = read ∙ get_or_default shelves c x no_shelf within
 
-shelf_set : (shelves : List Shelf) (c : ℕ) (x : Shelf) → c < length shelves
+pub shelf_set : (shelves : List Shelf) (c : ℕ) (x : Shelf) → c < length shelves
     → ◌≡◌ {A = ℕ → Shelf} (shelf_at (set shelves c x)) (put c x (shelf_at shelves))
 shelf_set shelves c x within = same_at_all _ _ (λ d. elim (eqb_tells d c) [
   | inl h ↦ rw (h.0, h.1) (get_or-set_same shelves c x no_shelf within)

@@ -1,9 +1,9 @@
 -- Which extent is taken, when none can be, and what an extent that is given back leaves. States `docs/HEAP.md`,
 -- "Pages".
-use Rattle.std.specs.Prelude.{◌≡◌, ℕ, ◌+◌, ◌^◌, ◌<◌, ◌≤◌, ◌⊎◌, [], ◌∷◌, ◌++◌, Result, Ok, Err}
+use Rattle.std.specs.Prelude.{◌≡◌, ℕ, zero, suc, ◌+◌, ◌^◌, ◌<◌, ◌≤◌, ◌⊎◌, [], ◌∷◌, ◌++◌, Result, Ok, Err}
 use Rattle.seg_store.specs.declared.store.StoreFault.{StoreFault}
 use Rattle.seg_store.specs.declared.store.StoreFault.TheVariants.{Full, OutOfMemory}
-use Rattle.page_table.specs.Pages.{Table, Shelf, limit, put}
+use Rattle.page_table.specs.Pages.{Table, Shelf, limit, put, IsTable}
 
 -- the shelf of class c is s
 abbrev pub with_shelf : ℕ → Shelf → Table → Table
@@ -47,3 +47,21 @@ Reserves c t u (Err OutOfMemory) = (u ≡ t) × WantsMemory c t
 -- the extent at p was given back
 abbrev pub after_give_back : ℕ → ℕ → Table → Table
 after_give_back c p t = with_shelf c (record { spare = (t.shelf c).spare ++ p ∷ []; total = (t.shelf c).total }) t
+
+-- ---- extents that are taken together
+
+-- an extent of class c at p has the next words; none of class 0
+abbrev pub TakesNext : ℕ → ℕ → Table → Table → Type 0
+TakesNext zero p t u = (p ≡ t.reserved) × (u ≡ t)
+TakesNext (suc c) p t u = TakesNew (suc c) p t u
+
+-- Extents of three classes have the next words, one behind the other: they were taken in turn. Between them there were
+-- tables too.
+pub record TakesThree (a b c p q r : ℕ) (t u : Table) : Type 0 where
+  pub one : Table
+  pub two : Table
+  pub first : TakesNext a p t one
+  pub second : TakesNext b q one two
+  pub third : TakesNext c r two u
+  pub one_is : IsTable one
+  pub two_is : IsTable two

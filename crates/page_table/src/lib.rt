@@ -1,6 +1,7 @@
 //! Pages of words that segments share until one first writes to them, and the extents that lie in them.
 #![tactic(auto)]
 
+mod counts;
 mod laws;
 mod page;
 mod pages;

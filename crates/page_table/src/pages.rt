@@ -1,12 +1,13 @@
 //! Pages of words that segments share, and their extents.
-ghost use Rattle.std.specs.Prelude.{◌≡◌, ℕ, ◌+◌, ◌-◌, ◌*◌, ◌/◌, ◌%◌, ◌<◌, ◌≤◌, ◌^◌, true, [], length, IfSome, IfNone, IfOk, OnOk, OnErr};
+ghost use Rattle.std.specs.Prelude.{◌≡◌, ℕ, ◌+◌, ◌-◌, ◌*◌, ◌/◌, ◌%◌, ◌<◌, ◌≤◌, ◌^◌, ◌⊎◌, true, false, [], length, IfSome, IfNone, IfOk, OnOk, OnErr};
 ghost use Rattle.std.specs.Prelude.{vec_capacity};
 ghost use Rattle.page_table.specs.Pages.{Lies, IsTable, limit, new_table, over, after_open, after_write, after_push, after_restore};
-ghost use Rattle.page_table.specs.Reserving.{Reserves, after_give_back};
+ghost use Rattle.page_table.specs.Reserving.{Reserves, TakesThree, after_give_back};
 ghost use Rattle.page_table.specs.Counting.{in_use};
 ghost use Rattle.page_table.specs.Lists.{table_of, word_at, sheet_at, word_over, IsRun};
 ghost use Rattle.page_table.specs.inner.Spreading.{HasWords, Restored, Spread};
 
+use crate::counts::{count_three, words_of};
 use crate::sheet::Sheet;
 use crate::shelf::Shelf;
 use py_data::NoMemory;
@@ -191,6 +192,21 @@ impl Pages {
         Some(self.sheets[k as usize].run(&self.shared, from, size))
     }
 
+    /// The words of a segment from a place on, where they lie in one page of its own, which is found once.
+    pub fn own_run(&self, k: u8, place: u32, n: u32) -> Option<&[u64]>
+        requires segment { k < (table_of self.now).segments }
+        ensures words { IfSome result (λ s. IsRun ((table_of self.now).word k) place n s.now) }
+        ensures own { IfSome result (λ s. (table_of self.now).own k (place / 512) ≡ true) }
+        ensures page { IfSome result (λ s. place % 512 + n ≤ 512) }
+        ensures none { IfNone result (((table_of self.now).own k (place / 512) ≡ false) ⊎ (512 < place % 512 + n)) }
+    {
+        let from = place as usize;
+        if from % 512 + n as usize > 512 {
+            return None;
+        }
+        self.sheets[k as usize].own_run(from, n as usize)
+    }
+
     /// Whether a segment has a page of its own.
     pub fn is_private(&self, k: u8, page: u32) -> bool
         requires segment { k < (table_of self.now).segments }
@@ -311,6 +327,34 @@ impl Pages {
         self.shelves[class as usize].grow()?;
         lengthen(&mut self.shared, size);
         Ok(reserved as u32)
+    }
+
+    /// Takes an extent of each of three classes, of which 0 is none, where none of them has one that was given back, and
+    /// they fit behind the words that were taken: they have the next words, one behind the other. Else nothing changes,
+    /// and neither at want of memory.
+    pub fn reserve_all(&mut self, first: u8, second: u8, third: u8) -> Option<(u32, u32, u32)>
+        requires first { first ≤ 21 }
+        requires second { second ≤ 21 }
+        requires third { third ≤ 21 }
+        ensures some { IfSome result (λ p. TakesThree first second third p.0 p.1 p.2 (table_of self.old)
+            (table_of self.new)) }
+        ensures none { IfNone result (table_of self.new ≡ table_of self.old) }
+    {
+        let one = self.shared.len();
+        let two = one + words_of(first);
+        let three = two + words_of(second);
+        let end = three + words_of(third);
+        if end > 512 * self.pages as usize {
+            return None;
+        }
+        if self.shared.reserve(end - one).is_err() {
+            return None;
+        }
+        if !count_three(&mut self.shelves, first, second, third) {
+            return None;
+        }
+        lengthen(&mut self.shared, end - one);
+        Some((one as u32, two as u32, three as u32))
     }
 
     /// Gives an extent back, that was taken with this class and not given back since. It takes no memory.

@@ -1,5 +1,5 @@
 //! The pages of one segment's own.
-ghost use Rattle.std.specs.Prelude.{◌≡◌, ℕ, ◌+◌, ◌-◌, ◌/◌, ◌%◌, ◌<◌, ◌≤◌, true, Some, None, [], length, min, option_copied, slice_get, is_ok, if◌then◌else◌, OnOk};
+ghost use Rattle.std.specs.Prelude.{◌≡◌, ℕ, ◌+◌, ◌-◌, ◌/◌, ◌%◌, ◌<◌, ◌≤◌, true, false, Some, None, [], length, min, option_copied, slice_get, is_ok, if◌then◌else◌, OnOk, IfSome, IfNone};
 ghost use Rattle.page_table.specs.Pages.{put, over};
 ghost use Rattle.page_table.specs.Lists.{word_at, sheet_in, word_over, has_page, IsRun};
 
@@ -128,6 +128,19 @@ impl Sheet {
         match self.page(place / 512) {
             Some(page) => page.words(place % 512, n),
             None => &shared[place..place + n],
+        }
+    }
+
+    /// The words from a place on, which lie in one page, where it is one of its own.
+    pub fn own_run(&self, place: usize, n: usize) -> Option<&[u64]>
+        requires page { place % 512 + n ≤ 512 }
+        ensures words { (below : ℕ → ℕ) → IfSome result (λ s. IsRun (word_over (sheet_in self.now) below) place n s.now) }
+        ensures own { IfSome result (λ s. has_page (sheet_in self.now) (place / 512) ≡ true) }
+        ensures none { IfNone result (has_page (sheet_in self.now) (place / 512) ≡ false) }
+    {
+        match self.page(place / 512) {
+            Some(page) => Some(page.words(place % 512, n)),
+            None => None,
         }
     }
 

@@ -65,7 +65,7 @@ impl Shelf {
 
     /// One extent more is new: makes the room in which it may be given back.
     pub fn grow(&mut self) -> Result<(), NoMemory>
-        requires { self.old.total < 2 ^ 32 }
+        requires { self.old.total < 2 ^ 33 }
         ensures { self.new
             ≡ (if is_ok result then record { spare = self.old.spare; total = self.old.total + 1 } else self.old) }
     {
@@ -74,6 +74,25 @@ impl Shelf {
         }
         self.total += 1;
         Ok(())
+    }
+
+    /// Counts an extent more as new, where none can be taken again, and makes the room in which it may be given back.
+    /// Or nothing changes.
+    pub fn count(&mut self) -> bool
+        requires { self.old.total < 2 ^ 33 }
+        ensures none { IsTrue result → self.old.spare ≡ [] }
+        ensures count { self.new
+            ≡ (if result then record { spare = self.old.spare; total = self.old.total + 1 } else self.old) }
+    {
+        self.is_empty() && self.grow().is_ok()
+    }
+
+    /// Takes back that an extent was counted.
+    pub fn uncount(&mut self)
+        requires { length self.old.spare < self.old.total }
+        ensures { self.new ≡ record { spare = self.old.spare; total = self.old.total - 1 } }
+    {
+        self.total -= 1;
     }
 
     /// Gives an extent back. It takes no memory.

@@ -1,5 +1,5 @@
 -- The class of an extent that holds so many words, and the class of a body with a room.
-use Rattle.std.proofs.Common.{◌≡◌, ◌≢◌, ◌⊎◌, ℕ, zero, suc, ◌+◌, ◌*◌, ◌^◌, ◌<◌, ◌≤◌, max, true, false, cond, eqb, leb, refl, sym, ap, ◌∙◌, inl, inr, arith}
+use Rattle.std.proofs.Common.{◌≡◌, ◌≢◌, ◌⊎◌, ℕ, zero, suc, ◌+◌, ◌*◌, ◌^◌, ◌<◌, ◌≤◌, min, max, true, false, cond, eqb, leb, refl, sym, ap, ◌∙◌, inl, inr, arith}
 use Rattle.std.proofs.Math.Nat.{pow-succ', pow-le-pow_right}
 use Rattle.std.proofs.lemmas.Nat.{pow_pos, pow_below}
 use Rattle.std.proofs.lemmas.Bool.{cond-true, cond-false, eq-eqb}
@@ -41,6 +41,30 @@ class_from_power (suc k) m h = elim (leb_tells m k) [
     | inl d ↦ absurd (let x : 2 ^ m ≤ 2 ^ k = d.1 in omega arith)
     | inr d ↦ rw d.0
         (let x : k < m = e.1 in omega arith)
+  ])
+]
+
+-- one word has an extent of class 0
+pub class_from_one : (k n : ℕ) → n ≤ 1 → class_from k n ≡ 0
+class_from_one zero n h = refl
+class_from_one (suc k) n h = elim (leb_tells n (2 ^ k)) [
+  | inl e ↦ rw e.0 (class_from_one k n h)
+  | inr e ↦ absurd (let x : 2 ^ k < n = e.1 in omega (arith, x, h, pow_pos k))
+]
+
+-- the class of so many words, by the power of two below them
+pub class_from_above : (k m n : ℕ) → 2 ^ m < n → n ≤ 2 * 2 ^ m → class_from k n ≡ min (m + 1) k
+class_from_above zero m n low high = omega arith
+class_from_above (suc k) m n low high = elim (leb_tells n (2 ^ k)) [
+  | inl e ↦ (let l : n ≤ 2 ^ k = e.1 in elim (leb_tells k m) [
+    | inl d ↦ absurd (let x : 2 ^ k ≤ 2 ^ m = pow-le-pow_right (omega arith) d.1 in omega (arith, x, l, low))
+    | inr d ↦ rw e.0 (let z : min (m + 1) k ≡ min (m + 1) (suc k) = omega (arith, d.1) in
+        class_from_above k m n low high ∙ z)
+  ])
+  | inr e ↦ (let l : 2 ^ k < n = e.1 in elim (leb_tells k m) [
+    | inl d ↦ rw e.0 (omega (arith, d.1))
+    | inr d ↦ absurd (let x : 2 ^ suc m ≤ 2 ^ k = pow-le-pow_right (omega arith) d.1 in
+        let y : 2 ^ suc m ≡ 2 * 2 ^ m = pow-succ' 2 m in omega (arith, x, y, l, high))
   ])
 ]
 

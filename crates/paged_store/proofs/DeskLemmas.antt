@@ -1,5 +1,5 @@
 -- What is made ready on a desk, and what is written there.
-use Rattle.std.proofs.Common.{◌≡◌, ◌⊎◌, ℕ, zero, suc, ◌+◌, ◌/◌, ◌<◌, ◌≤◌, Bool, true, false, ◌||◌, cond, List, [], ◌∷◌, ◌++◌, length, get_or, Result, Ok, Err, OnErr, Some, slice_get, ◌-◌, refl, sym, ap, subst, ◌∙◌, inl, inr, arith, length-append, append_assoc}
+use Rattle.std.proofs.Common.{◌≡◌, ◌⊎◌, ℕ, zero, suc, ◌+◌, ◌/◌, ◌%◌, ◌<◌, ◌≤◌, Bool, true, false, ◌||◌, cond, List, [], ◌∷◌, ◌++◌, length, get_or, Result, Ok, Err, OnErr, Some, slice_get, ◌-◌, refl, sym, ap, subst, ◌∙◌, inl, inr, arith, length-append, append_assoc}
 use Rattle.std.proofs.Math.Bool.{or_assoc}
 use Rattle.std.proofs.lemmas.Bool.{or_cases, or_left, or_right}
 use Rattle.std.proofs.lemmas.List.{append-nil}
@@ -19,33 +19,15 @@ pub on_err : {T E P : Type 0} (x : Result T E) → P → OnErr x P
 on_err (Ok y) h = tt
 on_err (Err e) h = h
 
--- ---- two words that are noted one after another; at want of memory none or one of them
+-- ---- one word more that is noted
 
-noted_next : (w : Words) (place j x p : ℕ) (old now new : List Note) → now ≡ with_notes w place j old →
-    new ≡ now ++ record { place = p; word = x } ∷ [] → p ≡ place + j → x ≡ w (place + j) →
-    new ≡ with_notes w place (suc j) old
-noted_next w place j x p old now new e f ep ex = f
-    ∙ (λ i. e i ++ record { place = ep i; word = ex i } ∷ [])
+pub noted_next : (w : Words) (place j x : ℕ) (old now new : List Note) → now ≡ with_notes w place j old →
+    new ≡ now ++ record { place = place + j; word = x } ∷ [] → x ≡ w (place + j) →
+    new ≡ with_notes w place (j + 1) old
+noted_next w place j x old now new e f ex = f
+    ∙ (λ i. e i ++ record { place = place + j; word = ex i } ∷ [])
     ∙ append_assoc old (listed j (note_of w place)) (note_of w place j ∷ [])
-
-noted_one : (w : Words) (place x : ℕ) (old new : List Note) → new ≡ old ++ record { place = place; word = x } ∷ [] →
-    x ≡ w place → new ≡ with_notes w place 1 old
-noted_one w place x old new e ex = noted_next w place 0 x place old old new (sym (append-nil old)) e (omega arith)
-    (ex ∙ ap w (omega arith))
-
-pub none_noted : (w : Words) (place : ℕ) (old new : List Note) → new ≡ old → NotedSome w place 2 old new
-none_noted w place old new e = record { count = 0; within = omega arith; is = e ∙ sym (append-nil old) }
-
-pub one_noted : (w : Words) (place x : ℕ) (old one new : List Note) →
-    one ≡ old ++ record { place = place; word = x } ∷ [] → x ≡ w place → new ≡ one → NotedSome w place 2 old new
-one_noted w place x old one new e ex f =
-    record { count = 1; within = omega arith; is = f ∙ noted_one w place x old one e ex }
-
-pub noted_two : (w : Words) (place x y : ℕ) (old one two : List Note) →
-    one ≡ old ++ record { place = place; word = x } ∷ [] → two ≡ one ++ record { place = place + 1; word = y } ∷ [] →
-    x ≡ w place → y ≡ w (place + 1) → two ≡ with_notes w place 2 old
-noted_two w place x y old one two e f ex ey =
-    noted_next w place 1 y (place + 1) old one two (noted_one w place x old one e ex) f refl ey
+    ∙ ap (λ n. with_notes w place n old) (let z : suc j ≡ j + 1 = omega arith in z)
 
 -- ---- one change after another
 
@@ -280,6 +262,12 @@ opened_pages k first page b c h e q l m = ap (λ t. t.own k q) e ∙ (elim (eqb_
   | inl f ↦ ap (λ z. put k (put page true (b.own k)) b.own k z) f.1 ∙ own_opened k page b.own
   | inr f ↦ own_put k page b.own k q (h q l (omega (arith, f.1)))
 ])
+
+-- a span in a page of a segment's own
+pub own_in_page : (k place n : ℕ) (t : Table) → t.own k (place / 512) ≡ true → place % 512 + n ≤ 512 →
+    OwnSpan k place n t
+own_in_page k place n t own l p h = let b : (place ≤ p) × (p < place + n) = span_bounds place n p h in
+    ap (λ q. t.own k q) (let z : p / 512 ≡ place / 512 = omega (arith, b, l) in z) ∙ own
 
 -- ---- spans that are added
 

@@ -71,6 +71,7 @@ mod EndCalls
 mod StoreEnds
 mod ClaimLemmas
 mod RiseLemmas
+mod NextLemmas
 mod WroteHands
 mod WriteCall
 mod ChangeCall

@@ -64,9 +64,9 @@ fn claim_two(pages: &mut Pages, first: u8, second: u8) -> Result<(u32, u32), Sto
     }
 }
 
-/// Takes extents of three classes, for which it answers their places, or none. For class 0 no extent is taken, and
-/// the place is 0.
-pub fn claim(
+/// Takes extents of three classes one after another, or none.
+#[inline(never)]
+fn claim_each(
     pages: &mut Pages,
     first: u8,
     second: u8,
@@ -95,5 +95,34 @@ pub fn claim(
             return_one(pages, second, two);
             Err(e)
         }
+    }
+}
+
+/// Takes extents of three classes, for which it answers their places, or none. For class 0 no extent is taken, and
+/// the place is any. Mostly all are new, and are taken at once.
+pub fn claim(
+    pages: &mut Pages,
+    first: u8,
+    second: u8,
+    third: u8,
+) -> Result<(u32, u32, u32), StoreFault>
+    requires first { first ≤ 21 }
+    requires second { second ≤ 21 }
+    requires third { third ≤ 21 }
+    ensures ok { IfOk result (λ p. Claims (extent_for first p.0 ++ extent_for second p.1 ++ extent_for third p.2)
+        (table_of pages.old) (table_of pages.new)) }
+    ensures within { IfOk result (λ p. (p.0 + size_of first ≤ (table_of pages.new).reserved)
+        × (p.1 + size_of second ≤ (table_of pages.new).reserved)
+        × (p.2 + size_of third ≤ (table_of pages.new).reserved)) }
+    ensures most { IfOk result (λ p. (table_of pages.new).reserved ≤ (table_of pages.old).reserved + size_of
+        first + size_of second + size_of third) }
+    ensures err { OnErr result (Claims [] (table_of pages.old) (table_of pages.new)) }
+    ensures cause { IfErr result (Denies (first ∷ second ∷ third ∷ []) (table_of pages.old) (table_of pages.new)) }
+    ensures rises { RisesBy (first ∷ second ∷ third ∷ []) (table_of pages.old) (table_of pages.new) }
+{
+    pages.known();
+    match pages.reserve_all(first, second, third) {
+        Some(places) => Ok(places),
+        None => claim_each(pages, first, second, third),
     }
 }

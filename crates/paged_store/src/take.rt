@@ -11,7 +11,7 @@ use crate::claim::claim;
 use crate::draft::Draft;
 use crate::extent::Extent;
 use crate::ready::open_span;
-use crate::spans::{give_back_all, run_of};
+use crate::spans::give_back_all;
 use page_table::Pages;
 use py_base::skip;
 use py_data::NoMemory;
@@ -47,17 +47,14 @@ fn open_extents(pages: &mut Pages, k: u8, extents: &[Extent]) -> Result<(), NoMe
     ensures same { Opened (table_of pages.old) (table_of pages.new) }
     ensures own { OnOk result (OwnExtents k extents.now (table_of pages.new)) }
 {
-    let mut done = 0;
-    'runs: while done < extents.len() {
-        let (to, run) = run_of(pages, extents, done);
-        open_span(pages, k, run.place, run.words)?;
-        done = to;
+    'extents: for extent in extents {
+        open_span(pages, k, extent.place, extent.words())?;
     }
     Ok(())
 }
 
 /// Takes extents of three classes, for which it answers their places, or none of them. For class 0 no extent is
-/// taken, and the place is 0.
+/// taken, and the place is any.
 pub(crate) fn take(
     pages: &mut Pages,
     draft: &mut Draft,

@@ -177,11 +177,11 @@ fn class_from(most: u8, n: usize) -> u8
     ensures class { result ≡ class_from most n }
     ensures most { result ≤ most }
 {
-    let mut class = most;
-    'classes: while class > 0 && n <= 1usize << (class - 1) {
-        class -= 1;
+    if n <= 1 {
+        0
+    } else {
+        ((n - 1).ilog2() as u8 + 1).min(most)
     }
-    class
 }
 
 /// The least class from 1 on of which an extent holds `n` words; 0 for no words.

@@ -1,34 +1,14 @@
-use Rattle.std.proofs.Common.{refl}
 use Rattle.page_table.specs.Lists.{table_of}
 use Rattle.paged_store.specs.Paged.{drafted}
 use Rattle.paged_store.specs.inner.Writing.{desk}
-use Rattle.paged_store.proofs.DeskLemmas.{on_err, refused_first, refused_last, readied_span}
+use Rattle.paged_store.proofs.DeskLemmas.{opened_none, own_in_page, readied_span}
 use Rattle.paged_store.proofs.ready.ready.Goals as goal
 
-pub returns-in_err-open_span-clause-err : goal.returns-in_err-open_span-clause-err
+pub returns-in-Some-clause-ok : goal.returns-in-Some-clause-ok
 unfolding drafted
-returns-in_err-open_span-clause-err c = on_err _
-    (refused_first c.args.k c.args.place c.args.n (desk c.args.pages.now c.args.draft.now)
-    (table_of c.open_span.new.pages) c.in_err-open_span.ensures.same c.args.draft.now.spans.items refl)
-
-pub returns-in_err-add_span-clause-err : goal.returns-in_err-add_span-clause-err
-unfolding drafted
-returns-in_err-add_span-clause-err c = on_err _
-    (refused_first c.args.k c.args.place c.args.n (desk c.args.pages.now c.args.draft.now)
-    (table_of c.open_span.new.pages) c.in_ok-open_span.ensures.same c.add_span.new.spans.items
-    c.in_err-add_span.ensures.err)
-
-pub returns-in_err-add_notes-clause-err : goal.returns-in_err-add_notes-clause-err
-unfolding drafted
-returns-in_err-add_notes-clause-err c = on_err _
-    (refused_last c.args.k c.args.place c.args.n (desk c.args.pages.now c.args.draft.now)
-    (table_of c.open_span.new.pages) c.in_ok-open_span.ensures.same c.add_span.new.spans.items
-    c.in_ok-add_span.ensures.ok c.in_ok-open_span.ensures.own c.requires.span c.add_notes.new.notes.items
-    c.in_err-add_notes.ensures.err)
-
-pub returns-clause-ok : goal.returns-clause-ok
-unfolding drafted
-returns-clause-ok c = readied_span c.args.k c.args.place c.args.n (desk c.args.pages.now c.args.draft.now)
-    (table_of c.open_span.new.pages) c.in_ok-open_span.ensures.same c.add_span.new.spans.items
-    c.in_ok-add_span.ensures.ok c.in_ok-open_span.ensures.own c.requires.span c.add_notes.new.notes.items
-    c.in_ok-add_notes.ensures.ok
+returns-in-Some-clause-ok c =
+    readied_span c.args.k c.args.place c.args.n (desk c.args.pages.now c.args.draft.now)
+    (table_of c.args.pages.now) (opened_none (table_of c.args.pages.now)) c.put_span.new.spans.items c.put_span.ensures
+    (own_in_page c.args.k c.args.place c.args.n (table_of c.args.pages.now) c.in-Some.ensures.own c.in-Some.ensures.page)
+    c.requires.span c.note_run.new.notes.items
+    (c.note_run.ensures ((table_of c.args.pages.now).word c.args.k) c.in-Some.ensures.words)

@@ -13,8 +13,8 @@ grow-requires c =
     omega (arith, c.self.invariant.shelves, c.requires.class.1) in
     let read : c.index_mut.result.now ≡ shelf_at c.self.inside.shelves.items c.args.class =
     read_shelf c.self.inside.shelves.items c.args.class c.index_mut.result.now within c.index_mut.ensures.value in
-    subst (λ (z : Shelf). z.total < 2 ^ 32) (sym read)
-    (total_fits c.args.class _ c.self.invariant.table c.requires.class.0 c.requires.class.1)
+    let fits = total_fits c.args.class _ c.self.invariant.table c.requires.class.0 c.requires.class.1 in
+    subst (λ (z : Shelf). z.total < 2 ^ 33) (sym read) (omega (arith, fits))
 
 abbrev before : goal.After-lengthen → Lists
 before c = record {

@@ -1,7 +1,7 @@
 use Rattle.std.proofs.Common.{◌≡◌, ℕ, ◌<◌, ◌≤◌, ◌/◌, true}
 use Rattle.page_table.specs.Lists.{table_of}
 use Rattle.paged_store.specs.inner.Writing.{Opened}
-use Rattle.paged_store.proofs.ready.open_span.Given as goal
+use Rattle.paged_store.proofs.ready.open_pages.Given as goal
 
 abbrev pub invariant-pages : goal.invariant-pages
 invariant-pages l = record {

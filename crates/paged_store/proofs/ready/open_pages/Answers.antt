@@ -1,7 +1,7 @@
 use Rattle.std.proofs.Common.{◌/◌}
 use Rattle.page_table.specs.Lists.{table_of}
 use Rattle.paged_store.proofs.DeskLemmas.{opened_more, opened_pages}
-use Rattle.paged_store.proofs.ready.open_span.Goals as goal
+use Rattle.paged_store.proofs.ready.open_pages.Goals as goal
 
 pub pages-preserved : goal.pages-preserved
 pages-preserved c = record {
