@@ -247,8 +247,8 @@ module _ {S : Type 0} (p : Prog S) (most k n : ℕ) (t e : Option (List ℕ)) (w
 
 -- steps that were done, and then more over the same view, whose segment and side are the same
 pub paused_then : {S : Type 0} (p : Prog S) (most k k1 done more : ℕ) (t e : Option (List ℕ)) (w : Worlds)
-    (d d1 : DeviceState) (pause : Pause) (m m1 : Meaning) (r r1 : ℕ) (b b1 : Books S) (s s1 : Side) (n n1 : ℕ) (q q1 : S)
-    (f f1 : Progress S) (c : CoreState S) → k1 ≡ k → s1 ≡ s
+    (d d1 : DeviceState) (pause : Pause) (m m1 : Meaning) (r r1 : ℕ) (b b1 : Books S) (s s1 : Side) (n n1 : ℕ)
+    (q q1 : S) (f f1 : Progress S) (c : CoreState S) → k1 ≡ k → s1 ≡ s
     → (u : Paused p most k t e w c done Whole m r b (work_of s n q f) d) →
     (Shown s1.solo t e d u.own → Tried p most k1 true done c (core_with (with_own u.own w) k1 m b (work_of s1 n q f)) →
     Paused p most k1 t e (with_own u.own w) c (done + more) pause m1 r1 b1 (work_of s1 n1 q1 f1) d1)
@@ -259,8 +259,8 @@ paused_then {S} p most k k1 done more t e w d d1 pause m m1 r r1 b b1 s s1 n n1 
     (sym (none_tried p most k false u.gone.reached here u.gone.rest)) u.gone.steps in
     let z = subst₂ (λ i v. Shown v.solo t e d u.own →
     Tried p most i true done c (core_with (with_own u.own w) i m b (work_of v n q f)) →
-    Paused p most i t e (with_own u.own w) c (done + more) pause m1 r1 b1 (work_of v n1 q1 f1) d1) ek es next u.told tried
-    in
+    Paused p most i t e (with_own u.own w) c (done + more) pause m1 r1 b1 (work_of v n1 q1 f1) d1) ek es next u.told
+    tried in
     record {
       own = z.own;
       mortal = λ y. z.mortal y ∙ u.mortal y;

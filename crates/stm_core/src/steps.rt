@@ -124,8 +124,8 @@ fn step_out<C: Client, S: SegStore, I: Source, O: Sink, E: Sink>(
 }
 
 /// One step more of the transaction of the view's segment, which was taken out of its hand and has done fewer steps
-/// than the length. A step whose row asks nothing needs no view. Why a step was cut is written down in `halt`, so that
-/// one that is done makes no large value.
+/// than the length. A step whose row asks nothing makes no call of the view. Why a step was cut is written down in
+/// `halt`, so that one that is done makes no large value.
 fn step_on<C: Client, S: SegStore, I: Source, O: Sink, E: Sink>(
     client: &C,
     alloc: Global,
@@ -261,30 +261,15 @@ fn steps_over<C: Client, S: SegStore, I: Source, O: Sink, E: Sink>(
 }
 
 impl<'p, C: Client, S: SegStore, I: Source, O: Sink, E: Sink> Core<'p, C, S, I, O, E> {
-    ghost use Rattle.std.specs.Prelude.{◌≡◌, ◌<◌, ◌≤◌, ◌+◌, ◌-◌, ℕ, List, Option, IfOk, OnErr, true, false, length, slice_get, Some, []};
-    ghost use Rattle.py_data.specs.World.{World};
-    ghost use Rattle.lock_run.specs.Client.{Standing, LifeAfter};
-    ghost use Rattle.lock_run.specs.declared.client.Life.TheVariants.{Lives};
-    ghost use Rattle.seg_store.specs.Meaning.{sees};
-    ghost use Rattle.stm_segment.specs.CoreState.{IsShort, with_conflict, with_segment, Running};
-    ghost use Rattle.stm_segment.specs.Conflict.{side};
-    ghost use Rattle.stm_segment.specs.Books.{Fit, Worlds, with_own, transaction, core_of};
-    ghost use Rattle.stm_segment.specs.Devices.{device_state, ShowsWorld, Shown, IsLeftAlone, CountsGrow, StopRose};
-    ghost use Rattle.stm_core.specs.inner.Whole.{Whole, SameShape, StepDone, StepCut, StepBroke};
+    ghost use Rattle.std.specs.Prelude.{◌-◌, length};
+    ghost use Rattle.stm_segment.specs.CoreState.{with_conflict, with_segment, Running};
+    ghost use Rattle.stm_segment.specs.Books.{core_of};
+    ghost use Rattle.stm_core.specs.inner.Whole.{Whole};
     ghost use Rattle.stm_core.specs.inner.Ending.{HasEnded, MayEnd, StepsLeave};
     ghost use Rattle.stm_core.specs.Advanced.{with_cause};
     ghost use Rattle.stm_segment.specs.CoreState.{first_cause};
     ghost use Rattle.stm_core.specs.Solo.{up_to_whole};
-    ghost use Rattle.stm_core.specs.Begun.{CountsSteps};
     ghost use Rattle.seg_store.specs.Calls.{after_drop};
-    ghost use Rattle.seg_store.specs.Store.{IsStore};
-    ghost use Rattle.stm_segment.specs.CoreState.{CoreState};
-    ghost use Rattle.stm_core.specs.Advance.{Tried};
-    ghost use Rattle.stm_core.specs.inner.Trying.{SaneShown, core_with};
-    ghost use Rattle.stm_segment.specs.InUse.{IfTold};
-    ghost use Rattle.stm_core.specs.inner.Rising.{RisesInStep, RisesOut};
-    ghost use Rattle.stm_core.specs.inner.Pauses.{pause_of, done_by, PauseCount};
-    ghost use Rattle.stm_core.specs.inner.Pausing.{DevicesGrow, Paused, SaneAfter};
 
     /// At most so many steps of the transaction of segment k, which was taken out of its hand: how many were done,
     /// and why they came to an end.

@@ -1,4 +1,4 @@
-use Rattle.std.proofs.Common.{◌≡◌, ℕ, List, Option, Result, true, sym, ◌∙◌, ap, subst, refl}
+use Rattle.std.proofs.Common.{◌≡◌, ℕ, List, Option, Result, true, ◌∙◌, subst, refl}
 use Rattle.std.proofs.lemmas.Result.{IfOk-weaker}
 use Rattle.py_data.specs.declared.stop.Side.{Side}
 use Rattle.py_data.specs.declared.stop.Stop.{Stop}
@@ -70,11 +70,14 @@ cut_seg g row = seg_cut (hold g) (devices g) (segment g) (me g) (same g) (peaks 
 -- ---- what the step keeps
 
 kept : (g : given.Over) (c : goal.After-view-1 g) → StepKept (hold g) (devices g) (segment g) (me g) (same g)
-    (same_refl g) (same_then g) c.args.view.now.segment c.args.view.now.side c.args.view.now (hold g c.args.view.now) (devices g c.args.view.now)
+    (same_refl g) (same_then g) c.args.view.now.segment c.args.view.now.side c.args.view.now (hold g c.args.view.now)
+    (devices g c.args.view.now)
     c.step-answer.new.v c.step-answer.result
 kept g c =
-    step_keeps (hold g) (devices g) (segment g) (me g) (same g) (same_refl g) (same_then g) c.args.view.now.segment c.args.view.now.side
-    _ c.args.view.now (hold g c.args.view.now) (devices g c.args.view.now) c.step-answer.result c.step-answer.new.s c.step-answer.new.v
+    step_keeps (hold g) (devices g) (segment g) (me g) (same g) (same_refl g) (same_then g) c.args.view.now.segment
+    c.args.view.now.side
+    _ c.args.view.now (hold g c.args.view.now) (devices g c.args.view.now) c.step-answer.result c.step-answer.new.s
+    c.step-answer.new.v
     refl refl
     refl refl
     (done_seg g _ c.step-answer.result c.args.view.now c.step-answer.new.s c.step-answer.new.v
@@ -144,7 +147,8 @@ returns-clause-done g c =
     IfOk-weaker c.step-answer.result _ _
     (λ o h n t e w shown. step_done (hold g) (devices g) (segment g) (me g) (same g) (same_refl g) (same_then g) t e
     (g.C.Client.prog c.args.client.now) w c.args.view.now.segment (g.S.SegStore.meaning c.args.view.now.store.now)
-    (g.S.SegStore.reserved c.args.view.now.store.now) c.args.view.now.books.now (work_of c.args.view.now.side n c.args.state.now c.args.view.now.progress.now) c.args.view.now.last
+    (g.S.SegStore.reserved c.args.view.now.store.now) c.args.view.now.books.now (work_of c.args.view.now.side n
+    c.args.state.now c.args.view.now.progress.now) c.args.view.now.last
     (devices g c.args.view.now) c.args.view.now h.0 c.step-answer.new.v c.step-answer.new.s refl
     refl
     refl (side_is c.args.view.now.side c.args.view.now.segment c.requires.side) h.1
@@ -156,10 +160,13 @@ returns-clause-done g c =
 
 -- the next step was cut so
 abbrev is_cut : (g : given.Over) → goal.After-view-1 g → Halt → Type 0
-is_cut g c halt = (n : ℕ) (t e : Option (List ℕ)) (w : Worlds) → Shown c.args.view.now.side.solo t e (devices g c.args.view.now) w.own →
+is_cut g c halt = (n : ℕ) (t e : Option (List ℕ)) (w : Worlds) → Shown c.args.view.now.side.solo t e (devices g
+    c.args.view.now) w.own →
     StepCut (g.C.Client.prog c.args.client.now) w c.args.view.now.segment
-    (side c.args.view.now.segment (transaction w.own ((g.S.SegStore.meaning c.args.view.now.store.now).part c.args.view.now.segment) (work_of c.args.view.now.side n c.args.state.now c.args.view.now.progress.now)))
-    halt (g.S.SegStore.meaning c.args.view.now.store.now) c.args.view.now.books.now (work_of c.args.view.now.side n c.args.state.now c.args.view.now.progress.now)
+    (side c.args.view.now.segment (transaction w.own ((g.S.SegStore.meaning c.args.view.now.store.now).part
+    c.args.view.now.segment) (work_of c.args.view.now.side n c.args.state.now c.args.view.now.progress.now)))
+    halt (g.S.SegStore.meaning c.args.view.now.store.now) c.args.view.now.books.now (work_of c.args.view.now.side n
+    c.args.state.now c.args.view.now.progress.now)
     (hold g c.step-answer.new.v).meaning (hold g c.step-answer.new.v).reserved (hold g c.step-answer.new.v).books
     (work_of c.args.view.now.side n c.step-answer.new.s c.step-answer.new.v.progress.now)
 
@@ -169,7 +176,8 @@ broke g c halt = c.args.view.now.side.solo ≡ true → (n : ℕ) (t e : Option 
     ShowsWorld t e (devices g c.args.view.now) w.own →
     StepBroke (g.C.Client.prog c.args.client.now) t e (g.S.SegStore.meaning c.args.view.now.store.now).image
     w.committed
-    (transaction w.own ((g.S.SegStore.meaning c.args.view.now.store.now).part c.args.view.now.segment) (work_of c.args.view.now.side n c.args.state.now c.args.view.now.progress.now)) halt
+    (transaction w.own ((g.S.SegStore.meaning c.args.view.now.store.now).part c.args.view.now.segment) (work_of
+    c.args.view.now.side n c.args.state.now c.args.view.now.progress.now)) halt
     (devices g c.step-answer.new.v)
 
 pub returns-clause-cut : goal.returns-clause-cut
@@ -178,7 +186,8 @@ returns-clause-cut g c =
     (if_err_on c.step-answer.result (λ stop h state n t e w shown.
     step_cut (hold g) (devices g) (segment g) (me g) (same g) (same_refl g) (same_then g) t e
     (g.C.Client.prog c.args.client.now) w c.args.view.now.segment (g.S.SegStore.meaning c.args.view.now.store.now)
-    (g.S.SegStore.reserved c.args.view.now.store.now) c.args.view.now.books.now (work_of c.args.view.now.side n c.args.state.now c.args.view.now.progress.now) c.args.view.now.last
+    (g.S.SegStore.reserved c.args.view.now.store.now) c.args.view.now.books.now (work_of c.args.view.now.side n
+    c.args.state.now c.args.view.now.progress.now) c.args.view.now.last
     (devices g c.args.view.now) c.args.view.now h.0 c.step-answer.new.v c.step-answer.new.s refl
     refl
     refl (side_is c.args.view.now.side c.args.view.now.segment c.requires.side) h.2
@@ -193,7 +202,8 @@ returns-clause-broke g c =
     (if_err_on c.step-answer.result (λ stop h state solo n t e w shows.
     step_broke (hold g) (devices g) (segment g) (me g) (same g) (same_refl g) (same_then g) t e
     (g.C.Client.prog c.args.client.now) w c.args.view.now.segment (g.S.SegStore.meaning c.args.view.now.store.now)
-    (g.S.SegStore.reserved c.args.view.now.store.now) c.args.view.now.books.now (work_of c.args.view.now.side n c.args.state.now c.args.view.now.progress.now) c.args.view.now.last
+    (g.S.SegStore.reserved c.args.view.now.store.now) c.args.view.now.books.now (work_of c.args.view.now.side n
+    c.args.state.now c.args.view.now.progress.now) c.args.view.now.last
     (devices g c.args.view.now) c.args.view.now h.0 c.step-answer.new.v c.step-answer.new.s refl
     refl
     refl (side_is c.args.view.now.side c.args.view.now.segment c.requires.side) h.2
@@ -211,7 +221,8 @@ returns-clause-peaks g c = λ n t e w shown.
     by_result c.step-answer.result c.step-answer.ensures.ok c.step-answer.ensures.err
     (λ o h. step_rises (hold g) (devices g) (segment g) (me g) (same g) (same_refl g) (same_then g) t e
     (g.C.Client.prog c.args.client.now) w c.args.view.now.segment (g.S.SegStore.meaning c.args.view.now.store.now)
-    (g.S.SegStore.reserved c.args.view.now.store.now) c.args.view.now.books.now (work_of c.args.view.now.side n c.args.state.now c.args.view.now.progress.now) c.args.view.now.last
+    (g.S.SegStore.reserved c.args.view.now.store.now) c.args.view.now.books.now (work_of c.args.view.now.side n
+    c.args.state.now c.args.view.now.progress.now) c.args.view.now.last
     (devices g c.args.view.now) c.args.view.now h.0 c.step-answer.new.v c.step-answer.new.s refl
     refl
     refl (side_is c.args.view.now.side c.args.view.now.segment c.requires.side) h.1.0
@@ -222,7 +233,8 @@ returns-clause-peaks g c = λ n t e w shown.
     c.step-answer.new.v h.2) refl)
     (λ stop h. step_rises (hold g) (devices g) (segment g) (me g) (same g) (same_refl g) (same_then g) t e
     (g.C.Client.prog c.args.client.now) w c.args.view.now.segment (g.S.SegStore.meaning c.args.view.now.store.now)
-    (g.S.SegStore.reserved c.args.view.now.store.now) c.args.view.now.books.now (work_of c.args.view.now.side n c.args.state.now c.args.view.now.progress.now) c.args.view.now.last
+    (g.S.SegStore.reserved c.args.view.now.store.now) c.args.view.now.books.now (work_of c.args.view.now.side n
+    c.args.state.now c.args.view.now.progress.now) c.args.view.now.last
     (devices g c.args.view.now) c.args.view.now h.0 c.step-answer.new.v c.step-answer.new.s refl
     refl
     refl (side_is c.args.view.now.side c.args.view.now.segment c.requires.side) h.2.0

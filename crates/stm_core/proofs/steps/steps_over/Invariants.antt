@@ -33,20 +33,25 @@ invariant-turns g l = record {
       (device_state g.I.Source.state g.O.Sink.state g.E.Sink.state l.view.devices.now);
   sane : SaneShown (g.C.Client.prog l.client) (g.C.Client.sound l.client) l.length
       l.initial.view.segment (device_state g.I.Source.state g.O.Sink.state g.E.Sink.state l.view.devices.now)
-      (g.S.SegStore.meaning l.view.store.now) l.view.books.now (work_of l.initial.view.side l.steps l.state l.view.progress.now);
+      (g.S.SegStore.meaning l.view.store.now) l.view.books.now (work_of l.initial.view.side l.steps l.state
+      l.view.progress.now);
   lives : (g.C.Client.prog l.client).life l.state ≡ Lives;
   steps : l.steps ≡ l.initial.steps + l.done;
   paused : (t e : Option (List ℕ)) (w : Worlds) →
       Shown l.initial.view.side.solo t e (device_state g.I.Source.state g.O.Sink.state g.E.Sink.state
       l.initial.view.devices.now) w.own
       → Paused (g.C.Client.prog l.client) l.length l.initial.view.segment t e w
-      (core_with w l.initial.view.segment (g.S.SegStore.meaning l.initial.view.store.now) l.initial.view.books.now (work_of l.initial.view.side l.initial.steps l.initial.state l.initial.view.progress.now)) l.done
-      Whole (g.S.SegStore.meaning l.view.store.now) (g.S.SegStore.reserved l.view.store.now) l.view.books.now (work_of l.initial.view.side l.steps l.state l.view.progress.now)
+      (core_with w l.initial.view.segment (g.S.SegStore.meaning l.initial.view.store.now) l.initial.view.books.now
+      (work_of l.initial.view.side l.initial.steps l.initial.state l.initial.view.progress.now)) l.done
+      Whole (g.S.SegStore.meaning l.view.store.now) (g.S.SegStore.reserved l.view.store.now) l.view.books.now (work_of
+      l.initial.view.side l.steps l.state l.view.progress.now)
       (device_state g.I.Source.state g.O.Sink.state g.E.Sink.state l.view.devices.now);
   peaks : (t e : Option (List ℕ)) (w : Worlds) →
       Shown l.initial.view.side.solo t e (device_state g.I.Source.state g.O.Sink.state g.E.Sink.state
       l.initial.view.devices.now) w.own
       → IfTold (g.S.SegStore.peaks l.initial.view.store.now) (g.S.SegStore.peaks l.view.store.now)
-      (RisesOut (g.C.Client.prog l.client) l.length l.initial.view.segment (g.S.SegStore.meaning l.initial.view.store.now)
-      (core_with w l.initial.view.segment (g.S.SegStore.meaning l.initial.view.store.now) l.initial.view.books.now (work_of l.initial.view.side l.initial.steps l.initial.state l.initial.view.progress.now)));
+      (RisesOut (g.C.Client.prog l.client) l.length l.initial.view.segment (g.S.SegStore.meaning
+      l.initial.view.store.now)
+      (core_with w l.initial.view.segment (g.S.SegStore.meaning l.initial.view.store.now) l.initial.view.books.now
+      (work_of l.initial.view.side l.initial.steps l.initial.state l.initial.view.progress.now)));
 }
