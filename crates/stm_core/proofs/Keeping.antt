@@ -176,6 +176,7 @@ module _ {S X : Type 0} (hold : X → Hold S) (devices : X → DeviceState) (seg
   -- what a step keeps, from the view v on, which holds d and whose devices tell p
   pub record StepKept (v : X) (d : Hold S) (p : DeviceState) (u : X) (r : Result Outcome Stop) : Type 0 where
     pub segment_is : segment u ≡ k
+    pub me_is : me u ≡ s
     pub same_is : same v u
     pub holds : HoldKept k d (hold u)
     pub leaves : StepLeaves s.solo p (devices u)
@@ -194,6 +195,7 @@ module _ {S X : Type 0} (hold : X → Hold S) (devices : X → DeviceState) (seg
       (ok.1.2.segment_is ∙ ek) (ok.1.2.me_is ∙ es) in
       record {
         segment_is = b.segment_is;
+        me_is = b.me_is;
         same_is = same_then v v1 u ok.1.2.same_is b.same_is;
         holds = hold_then k (hold v) (hold v1) (hold u) (hold_opened k (hold v) (hold v1) op) b.holds;
         leaves = leaves_done s.solo (devices v) (devices v1) (devices u) ok.1.1 b.tells;
@@ -208,6 +210,7 @@ module _ {S X : Type 0} (hold : X → Hold S) (devices : X → DeviceState) (seg
       let un : SegUndoes k (hold u1) (hold u) = subst (λ i. SegUndoes i (hold u1) (hold u)) b.0.segment_is err.4.0 in
       record {
         segment_is = err.4.2.segment_is ∙ b.0.segment_is;
+        me_is = err.4.2.me_is ∙ b.0.me_is;
         same_is = same_then v v1 u err.2.2.same_is (same_then v1 u1 u b.0.same_is err.4.2.same_is);
         holds = hold_then k (hold v) (hold v1) (hold u) (hold_opened k (hold v) (hold v1) op)
             (hold_then k (hold v1) (hold u1) (hold u) b.0.holds (hold_undone k (hold u1) (hold u) un));

@@ -1,5 +1,5 @@
 -- Why steps of a transaction came to an end, said of the core as it is then.
-use Rattle.std.proofs.Common.{◌≡◌, ◌≢◌, ◌||◌, ◌&&◌, not, ℕ, Bool, true, false, cond, eqb, ltb, ◌+◌, ◌≤◌, suc, List, Option, Some, slice_get, refl, sym, ◌∙◌, ap, subst, arith}
+use Rattle.std.proofs.Common.{◌≡◌, ◌≢◌, ◌||◌, ◌&&◌, not, ℕ, Bool, true, false, cond, eqb, ltb, ◌+◌, ◌≤◌, suc, List, Option, Some, slice_get, refl, sym, ◌∙◌, ap, subst, subst₂, arith}
 use Rattle.std.proofs.lemmas.Bool.{eq-eqb, ne_eqb, cond-true, cond-false}
 use Rattle.py_data.specs.declared.stop.Side.{Side}
 use Rattle.py_data.specs.declared.stop.Conflict.{Conflict}
@@ -20,6 +20,7 @@ use Rattle.stm_core.specs.declared.steps.Pause.{Pause}
 use Rattle.stm_segment.specs.declared.halt.Halt.{Halt}
 use Rattle.stm_segment.specs.declared.halt.Halt.TheVariants.{Lost, NeedSolo, Full, ReadFault, WriteFault, ErrFault, OutOfMemory}
 use Rattle.stm_core.specs.declared.steps.Pause.TheVariants.{Whole, Waits, Ended, Stopped}
+use Rattle.stm_segment.specs.declared.books.Progress.{Progress}
 use Rattle.stm_segment.specs.declared.books.Work.{Work}
 use Rattle.stm_segment.specs.declared.books.Books.{Books}
 use Rattle.stm_segment.specs.declared.books.Hand.TheVariants.{Runs}
@@ -30,7 +31,7 @@ use Rattle.stm_segment.specs.Books.{Worlds, with_own, transaction, segment_of, c
 use Rattle.stm_segment.specs.Asking.{WaitsThere, Reaches, AsksToChange, AsksOutside, AsksRoom}
 use Rattle.stm_segment.specs.inner.Hold.{LosesTo}
 use Rattle.stm_core.specs.Advance.{Tried}
-use Rattle.stm_core.specs.inner.Trying.{core_with, Sane}
+use Rattle.stm_core.specs.inner.Trying.{core_with, work_of, Sane}
 use Rattle.stm_segment.specs.Devices.{DeviceState, Shown, ShowsWorld, IsLeftAlone}
 use Rattle.stm_core.specs.inner.Whole.{stepped, CutWhy, StepDone, StepCut, StepBroke}
 use Rattle.stm_core.specs.inner.Pausing.{StopWhy, Paused}
@@ -244,23 +245,25 @@ module _ {S : Type 0} (p : Prog S) (most k n : ℕ) (t e : Option (List ℕ)) (w
               fault = h.fault;
             }
 
--- steps that were done, and then more of the same client
-pub paused_then : {S : Type 0} (p p1 : Prog S) (most k done more : ℕ) (t e : Option (List ℕ)) (w : Worlds)
-    (d d1 : DeviceState) (pause : Pause) (m m1 : Meaning) (r r1 : ℕ) (b b1 : Books S) (x x1 : Work S) (c : CoreState S)
-    → p1 ≡ p → x1.solo ≡ x.solo
-    → (u : Paused p most k t e w c done Whole m r b x d) →
-    (Shown x.solo t e d u.own → Tried p1 most k true done c (core_with (with_own u.own w) k m b x) →
-    Paused p1 most k t e (with_own u.own w) c (done + more) pause m1 r1 b1 x1 d1)
-    → Paused p most k t e w c (done + more) pause m1 r1 b1 x1 d1
-paused_then {S} p p1 most k done more t e w d d1 pause m m1 r r1 b b1 x x1 c client same u next =
-    let here = core_with (with_own u.own w) k m b x in
+-- steps that were done, and then more over the same view, whose segment and side are the same
+pub paused_then : {S : Type 0} (p : Prog S) (most k k1 done more : ℕ) (t e : Option (List ℕ)) (w : Worlds)
+    (d d1 : DeviceState) (pause : Pause) (m m1 : Meaning) (r r1 : ℕ) (b b1 : Books S) (s s1 : Side) (n n1 : ℕ)
+    (q q1 : S) (f f1 : Progress S) (c : CoreState S) → k1 ≡ k → s1 ≡ s
+    → (u : Paused p most k t e w c done Whole m r b (work_of s n q f) d) →
+    (Shown s1.solo t e d u.own → Tried p most k1 true done c (core_with (with_own u.own w) k1 m b (work_of s1 n q f)) →
+    Paused p most k1 t e (with_own u.own w) c (done + more) pause m1 r1 b1 (work_of s1 n1 q1 f1) d1)
+    → Paused p most k t e w c (done + more) pause m1 r1 b1 (work_of s n1 q1 f1) d1
+paused_then {S} p most k k1 done more t e w d d1 pause m m1 r r1 b b1 s s1 n n1 q q1 f f1 c ek es u next =
+    let here = core_with (with_own u.own w) k m b (work_of s n q f) in
     let tried = subst (λ z. Tried p most k true done c z)
     (sym (none_tried p most k false u.gone.reached here u.gone.rest)) u.gone.steps in
-    let z = subst (λ q. Paused q most k t e (with_own u.own w) c (done + more) pause m1 r1 b1 x1 d1) client
-    (next u.told (subst (λ q. Tried q most k true done c here) (sym client) tried)) in
+    let z = subst₂ (λ i v. Shown v.solo t e d u.own →
+    Tried p most i true done c (core_with (with_own u.own w) i m b (work_of v n q f)) →
+    Paused p most i t e (with_own u.own w) c (done + more) pause m1 r1 b1 (work_of v n1 q1 f1) d1) ek es next u.told
+    tried in
     record {
       own = z.own;
-      mortal = λ q. z.mortal q ∙ u.mortal (sym same ∙ q);
+      mortal = λ y. z.mortal y ∙ u.mortal y;
       gone = z.gone;
       why = z.why;
       told =

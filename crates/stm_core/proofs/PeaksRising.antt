@@ -1,5 +1,6 @@
 -- How far the store's peaks rise in steps of a transaction, one after another.
 use Rattle.std.proofs.Common.{◌≡◌, ◌≤◌, ◌/◌, ℕ, suc, List, slice_get, Option, Some, None, inl, inr, refl, sym, subst, subst₂, arith}
+use Rattle.py_data.specs.declared.stop.Side.{Side}
 use Rattle.py_data.specs.Row.{Row}
 use Rattle.py_data.specs.Sense.{Upto}
 use Rattle.py_data.specs.Sight.{Sight, pure}
@@ -7,6 +8,7 @@ use Rattle.lock_run.specs.declared.client.Outcome.{Outcome}
 use Rattle.lock_run.specs.declared.client.Life.TheVariants.{Lives}
 use Rattle.lock_run.specs.Prog.{Prog}
 use Rattle.seg_store.specs.Meaning.{Meaning}
+use Rattle.stm_segment.specs.declared.books.Progress.{Progress}
 use Rattle.stm_segment.specs.declared.books.Work.{Work}
 use Rattle.stm_segment.specs.declared.books.Hand.TheVariants.{Idle, Runs}
 use Rattle.stm_segment.specs.declared.books.Books.{Books}
@@ -20,7 +22,7 @@ use Rattle.stm_core.specs.SaneCore.{StandsFor}
 use Rattle.stm_segment.specs.InUse.{IfTold}
 use Rattle.stm_core.specs.PeakRises.{Moment, used_then, RisesWithin}
 use Rattle.stm_core.specs.inner.Whole.{SameShape}
-use Rattle.stm_core.specs.inner.Trying.{core_with}
+use Rattle.stm_core.specs.inner.Trying.{core_with, work_of}
 use Rattle.stm_core.specs.inner.Pausing.{Paused}
 use Rattle.stm_core.specs.inner.Rising.{RisesInStep, RisesOut}
 use Rattle.stm_core.proofs.Advanced.{none_led, led_then, gone_led}
@@ -134,18 +136,20 @@ pub out_shape : {S : Type 0} (p : Prog S) (most k : ℕ) (m m1 : Meaning) (c : C
 out_shape p most k m m1 c f g s = subst₂ (λ l n. RisesWithin p most (l / 2) n k c f g) s.1 s.0
 
 -- steps that were done, and then more of the same client
-pub out_then : {S : Type 0} (p p1 : Prog S) (most k done : ℕ) (t e : Option (List ℕ)) (w : Worlds) (d : DeviceState)
-    (m0 m : Meaning) (r : ℕ) (b : Books S) (x : Work S) (c : CoreState S) (before now after : Option Peaks) → p1 ≡ p →
-    SameShape m0 m → (u : Paused p most k t e w c done Whole m r b x d) → IfTold before now (RisesOut p most k m0 c) →
-    (Shown x.solo t e d u.own →
-    IfTold now after (RisesOut p1 most k m (core_with (with_own u.own w) k m b x)))
+pub out_then : {S : Type 0} (p : Prog S) (most k k1 done : ℕ) (t e : Option (List ℕ)) (w : Worlds) (d : DeviceState)
+    (m0 m : Meaning) (r : ℕ) (b : Books S) (s s1 : Side) (n : ℕ) (q : S) (f : Progress S) (c : CoreState S)
+    (before now after : Option Peaks) → k1 ≡ k → s1 ≡ s → SameShape m0 m →
+    (u : Paused p most k t e w c done Whole m r b (work_of s n q f) d) → IfTold before now (RisesOut p most k m0 c) →
+    (Shown s1.solo t e d u.own →
+    IfTold now after (RisesOut p most k1 m (core_with (with_own u.own w) k1 m b (work_of s1 n q f))))
     → IfTold before after (RisesOut p most k m0 c)
-out_then {S} p p1 most k done t e w d m0 m r b x c before now after client shape u first next =
-    let here = core_with (with_own u.own w) k m b x in
+out_then {S} p most k k1 done t e w d m0 m r b s s1 n q f c before now after ek es shape u first next =
+    let here = core_with (with_own u.own w) k m b (work_of s n q f) in
     told_then before now after (RisesOut p most k m0 c) (RisesOut p most k m here) (RisesOut p most k m0 c)
     (λ f g h s y. within_then p most (m0.limit / 2) m0.segments k c here (gone_led p most k done 0 c here u.gone) f g h
     s (out_shape p most k m0 m here g h shape y)) first
-    (subst (λ q. IfTold now after (RisesOut q most k m here)) client (next u.told))
+    (subst₂ (λ i v. Shown v.solo t e d u.own →
+    IfTold now after (RisesOut p most i m (core_with (with_own u.own w) i m b (work_of v n q f)))) ek es next u.told)
 
 -- ---- from a core that stands
 

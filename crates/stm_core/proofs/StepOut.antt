@@ -26,6 +26,7 @@ use Rattle.seg_store.proofs.Sees.{own_part, step_shows}
 use Rattle.stm_segment.specs.declared.books.Work.{Work}
 use Rattle.stm_segment.specs.declared.books.Books.{Books}
 use Rattle.stm_segment.specs.declared.halt.Halt.{Halt}
+use Rattle.stm_segment.specs.declared.halt.LastStop.{LastStop}
 use Rattle.stm_segment.specs.declared.halt.Halt.TheVariants.{Lost, NeedSolo, Full, ReadFault, WriteFault, ErrFault, OutOfMemory}
 use Rattle.stm_segment.specs.CoreState.{Running, sight_of}
 use Rattle.stm_segment.specs.Conflict.{side}
@@ -33,7 +34,7 @@ use Rattle.stm_core.specs.Moves.{Stays}
 use Rattle.stm_segment.specs.Asking.{Reaches, AsksToChange, AsksOutside, AsksRoom, AskedFor}
 use Rattle.stm_segment.specs.Books.{runs_at, Worlds, transaction, core_of, Fit}
 use Rattle.stm_segment.specs.Devices.{DeviceState, ShowsWorld, Shown}
-use Rattle.stm_segment.specs.inner.Halts.{gave_none, halt_for}
+use Rattle.stm_segment.specs.inner.Halts.{halt_for}
 use Rattle.stm_segment.specs.inner.Hold.{Hold, holding, sight, Dooms, SegOpens, SegUndoes, LosesTo}
 use Rattle.stm_segment.specs.InUse.{core_use, next_more, IfTold}
 use Rattle.stm_core.specs.inner.Rising.{RisesInStep}
@@ -73,6 +74,10 @@ pub by_result : {T E : Type 0} {P : T → Type 0} {Q : E → Type 0} {R : Type 0
     ((x : T) → P x → R) → ((e : E) → Q e → R) → R
 by_result (Ok x) p q f g = f x p
 by_result (Err e) p q f g = g e q
+
+-- the side of a transaction on its segment
+pub side_is : (s : Side) (k : ℕ) → s.segment ≡ k → s ≡ record s { segment = k }
+side_is s k e i = record s { segment = e i }
 
 -- ---- what is in use
 
@@ -153,11 +158,12 @@ module _ {S X : Type 0} (hold : X → Hold S) (devices : X → DeviceState) (seg
         tells q q1 (at_used (world_now p) false (sight k (hold v1))) (at_used r.world r.used (sight k (hold u))) o lives
         r.does
 
-    -- A step of the transaction x of segment k, which was taken out of its hand: the view v was made of the store's
-    -- meaning m, the books b and the devices p, and opened as v1. The step leaves the view u and the state q.
+    -- A step of the transaction x of segment k, which was taken out of its hand: the view v is over the store's meaning
+    -- m, the books b and the devices p, whatever it gave before, and was opened as v1. The step leaves the view u and
+    -- the state q.
     module _ (t e : Option (List ℕ)) (prog : Prog S) (w : Worlds) (k : ℕ) (m : Meaning) (r : ℕ) (b : Books S)
-        (x : Work S) (p : DeviceState) (v v1 u : X) (q : S)
-        (ev : hold v ≡ holding m r b x.progress gave_none) (pv : devices v ≡ p) (ek : segment v ≡ k)
+        (x : Work S) (before : LastStop) (p : DeviceState) (v v1 u : X) (q : S)
+        (ev : hold v ≡ holding m r b x.progress before) (pv : devices v ≡ p) (ek : segment v ≡ k)
         (es : me v ≡ side k (transaction w.own (m.part k) x))
         (opens : (seg_bracket hold devices segment me same).opens v v1)
         (fit : Fit k m b x.progress) (fit1 : Fit k (hold u).meaning (hold u).books (hold u).progress)
@@ -177,7 +183,7 @@ module _ {S X : Type 0} (hold : X → Hold S) (devices : X → DeviceState) (seg
         abbrev pub x1 : Work S
         x1 = record x { state = q; progress = (hold u).progress }
 
-        op : SegOpens k (holding m r b x.progress gave_none) (hold v1)
+        op : SegOpens k (holding m r b x.progress before) (hold v1)
         op = subst (λ d. SegOpens k d (hold v1)) ev (subst (λ i. SegOpens i (hold v) (hold v1)) ek opens.0)
 
         part_begins : (hold v1).meaning.part k ≡ opened (m.part k)

@@ -1,16 +1,29 @@
 -- A core with a transaction that was taken out of its segment.
 -- What code and proofs say to each other: nothing public rests on it.
 use Rattle.std.specs.Prelude.{ℕ, Option, List}
+use Rattle.py_data.specs.declared.stop.Side.{Side}
 use Rattle.py_data.specs.Heap.{Heap}
 use Rattle.lock_run.specs.Prog.{Prog}
 use Rattle.lock_run.specs.Machine.{Machine}
 use Rattle.seg_store.specs.Meaning.{Meaning}
+use Rattle.stm_segment.specs.declared.books.Progress.{Progress}
 use Rattle.stm_segment.specs.declared.books.Work.{Work}
 use Rattle.stm_segment.specs.declared.books.Books.{Books}
 use Rattle.stm_segment.specs.CoreState.{Running, CoreState, with_segment}
 use Rattle.stm_core.specs.Good.{Good}
 use Rattle.stm_segment.specs.Books.{Worlds, transaction, core_of}
 use Rattle.stm_segment.specs.Devices.{DeviceState, Shown}
+
+-- the transaction of this side, which has done so many steps, has this state then, and made and started that
+abbrev pub work_of : {S : Type 0} → Side → ℕ → S → Progress S → Work S
+work_of s n q p = record {
+  thread = s.thread;
+  begun = s.begun;
+  steps = n;
+  solo = s.solo;
+  state = q;
+  progress = p;
+}
 
 -- the core with the transaction that was taken out of segment k
 abbrev pub core_with : {S : Type 0} → Worlds → ℕ → Meaning → Books S → Work S → CoreState S
