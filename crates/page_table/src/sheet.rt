@@ -100,6 +100,20 @@ impl Sheet {
         }
     }
 
+    /// The three words from an even place on, over the shared words, of which the last may lie in the next page.
+    #[cold]
+    #[inline(never)]
+    fn words_at_end(&self, shared: &[u64], place: usize) -> (u64, u64, u64)
+        requires within { place + 2 < length shared.now }
+        requires even { place % 2 ≡ 0 }
+        ensures first { result.0 ≡ word_over (sheet_in self.now) (word_at shared.now) place }
+        ensures second { result.1 ≡ word_over (sheet_in self.now) (word_at shared.now) (place + 1) }
+        ensures third { result.2 ≡ word_over (sheet_in self.now) (word_at shared.now) (place + 2) }
+    {
+        let (first, second) = self.two_words(shared, place);
+        (first, second, self.word(shared, place + 2))
+    }
+
     /// The three words from an even place on, over the shared words. They lie in one page, but for those at its end.
     pub fn three_words(&self, shared: &[u64], place: usize) -> (u64, u64, u64)
         requires within { place + 2 < length shared.now }
@@ -110,8 +124,7 @@ impl Sheet {
     {
         let i = place % 512;
         if i == 510 {
-            let (first, second) = self.two_words(shared, place);
-            return (first, second, self.word(shared, place + 2));
+            return self.words_at_end(shared, place);
         }
         match self.page(place / 512) {
             Some(page) => (page.get(i), page.get(i + 1), page.get(i + 2)),
