@@ -187,7 +187,6 @@ fn two_numbers(s: &ThreadState) -> Option<(i64, i64)>
 }
 
 /// BINARY and INPLACE of two numbers.
-#[inline(always)]
 fn number(s: &mut ThreadState, op: u8) -> bool
     ensures binary { IsAtOnce s.old (Binary op) result s.new }
     ensures in_place { IsAtOnce s.old (InPlace op) result s.new }

@@ -72,18 +72,15 @@ pub(crate) fn go_by_row<V: View<ThreadState>>(
 }
 
 /// The step of a thread that lives, if it is of an instruction that asks nothing of the heap and raises nothing:
-/// whether it was done.
+/// whether it was done. That the thread has a frame is tested once, so that no look at its frame tests it again.
 #[inline(always)]
 pub fn step_at_once(p: &Program, s: &mut ThreadState) -> bool
     requires lives { state.life_of s.old ≡ Lives }
     ensures done { result ≡ true → steps.step_row p.now s.old ≡ Ret (Done, s.new) }
     ensures not { result ≡ false → s.new ≡ s.old }
 {
-    if s.dying().is_some() {
+    if s.dying().is_some() || !s.has_frame() {
         return false;
-    }
-    if !s.has_frame() {
-        unreachable!();
     }
     match instr_at(p, s) {
         Some(i) => do_at_once(s, i),
@@ -145,9 +142,6 @@ pub fn step_row<V: View<ThreadState>>(
 {
     if let Some(d) = s.dying() {
         return die(alloc, v, s, d);
-    }
-    if !s.has_frame() {
-        unreachable!();
     }
     match instr_at(p.program(), s) {
         Some(i) => go(alloc, v, p, s, i),
